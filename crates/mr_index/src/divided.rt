@@ -226,7 +226,8 @@ impl<'a> DividedSplit<'a> {
         // As in `join`.
         let _files = self.plan.input().files();
         let line = self.locate(number);
-        tables.map_record((number - from) as usize, line, mapping)
+        tables.map_record((number - from) as usize, line, mapping)?;
+        Ok(())
     }
 
     fn map_between(&self, alloc: Global, from: u32, end: u32) -> Result<Piece, AllocError>

@@ -80,7 +80,8 @@ fn map_splits(
     let splits = plan.splits();
     let mut parts = Vec::with_capacity(alloc, splits as usize)?;
     for split in 0..splits {
-        parts.push(map_split(alloc, kept, split, mapping, watch)?)?;
+        let part = map_split(alloc, kept, split, mapping, watch)?;
+        parts.push(part)?;
     }
     Ok(parts)
 }

@@ -276,8 +276,9 @@ pub(crate) fn map_split(
     let mut tables = Tables::new(alloc, Room::of_split(plan, split));
     let mut left = kept.of_split(split);
     while let Some((name, line)) = left.next() {
-        let index = plan.record_index(split, name.rec) as u64;
-        mapping.pace.reach(index, watch);
+        mapping
+            .pace
+            .reach(plan.record_index(split, name.rec) as u64, watch);
         tables.map_record(name.rec as usize, line, mapping)?;
     }
     Ok(Part::of_tables(split, tables))

@@ -1,8 +1,9 @@
-use Rattle.std.proofs.Common.{◌≡◌, ◌<◌, ◌≤◌, ◌+◌, ℕ, List, length, ap, sym, ◌∙◌, arith}
+use Rattle.std.proofs.Common.{◌≡◌, ◌<◌, ◌≤◌, ◌+◌, ℕ, List, length, refl, ap, sym, ◌∙◌, arith}
 use Rattle.std.proofs.lemmas.List.{length_push}
 use Rattle.mr_bytes.specs.Pairs.{Triple}
 use Rattle.mr_bytes.specs.declared.RecordName.{RecordName}
 use Rattle.mr_input.specs.Files.{split_total}
+use Rattle.mr_jobs.specs.Hits.{Source}
 use Rattle.mr_splits.specs.Named.{NamedRecord}
 use Rattle.mr_splits.specs.Cut.{Cut, records_of}
 use Rattle.mr_index.specs.Index.{triples_of, triples_in, mapped_among}
@@ -22,6 +23,7 @@ loop-split-init g c =
       each = λ s h. absurd (omega (arith, h, none));
       counted = ap (λ (n : ℕ). c.args.mapping.now.mapped + n) (mapped-first skips v c.splits-splits.result some total);
       more = omega arith;
+      mapper = refl;
     }
 
 pub map_split-requires-clause-room : goal.map_split-requires-clause-room
@@ -62,11 +64,12 @@ loop-split-preserved g c =
     let grown = c.in_ok-push.ensures.items in
     record {
       within = omega (arith, c.loop-split-test.true);
-      many = omega (arith, ap length grown, length_push parts c.in_ok-push-arg.part, inv.many);
-      each = each-push ts parts c.push.new.self.items c.in_ok-push-arg.part grown
-          (c.in_ok-part.ensures.part ∙ ap (λ (s : ℕ). triples_in s ts) (sym inv.many)) inv.each;
+      many = omega (arith, ap length grown, length_push parts c.in_ok-part.part, inv.many);
+      each = each-push ts parts c.push.new.self.items c.in_ok-part.part grown
+          (c.in_ok-part.ensures.part ∙ ap (λ (m : Source). triples_in c.loop-split.split (triples_of m.job v skips)) inv.mapper ∙ ap (λ (s : ℕ). triples_in s ts) (sym inv.many)) inv.each;
       counted = omega (arith, counted, step, inv.counted);
       more = omega (arith, counted, inv.more);
+      mapper = c.map_split.ensures.same ∙ inv.mapper;
     }
 
 pub returns-clause-counted : goal.returns-clause-counted
