@@ -80,16 +80,18 @@ fn check_rest<I: ItemSource, O: Outputs>(
     let listed = expect_count(walker, request.max_skips())?;
     let plan = plan_of(work.alloc, request, computation.input)?;
     let skips = read_skips(work.alloc, walker, &plan, listed)?;
-    let kept = plan.without(work.alloc, &skips)?;
-    // A plan has far fewer records than a u64 counts.
-    let _few = plan.count();
-    let meter = &mut work.meter;
-    let index = EmissionIndex::of_watched(work.alloc, &kept, request.job(), meter, watch)?;
-    let basis = Basis {
-        request,
-        index: &index,
+    let pairs = {
+        let kept = plan.without(work.alloc, &skips)?;
+        // A plan has far fewer records than a u64 counts.
+        let _few = plan.count();
+        let meter = &mut work.meter;
+        let index = EmissionIndex::of_watched(work.alloc, &kept, request.job(), meter, watch)?;
+        let basis = Basis {
+            request,
+            index: &index,
+        };
+        check_parts(&basis, outputs, walker, work, watch)?
     };
-    let pairs = check_parts(&basis, outputs, walker, work, watch)?;
     Ok(Yes { skips, pairs })
 }
 
