@@ -63,13 +63,8 @@ fn judge_lent<R: CountedRead, C: CountedRead>(
             reader: certificate,
         },
     )?;
-    judge_all(
-        computation,
-        &mut outputs,
-        &mut walker,
-        &mut Work::new(alloc),
-        progress,
-    )
+    let mut work = Work::new(alloc);
+    judge_all(computation, &mut outputs, &mut walker, &mut work, progress)
 }
 
 /// The fault of a stop that no failed read caused. An output or a certificate of 2^63 bytes or more

@@ -36,5 +36,5 @@ pub returns : goal.returns
 returns g c =
     let r : Reading = reading g.R.CountedRead.remaining c.in_ok-outputs.outputs in
     let gives : Coming = Gives (stream (λ (l : ByRef g.row.C.Denot). g.C.CountedRead.remaining l.reader.now) c.in_ok-walker.walker) in
-    judged_some g.R.CountedRead.remaining c.args.outputs.now r (g.C.CountedRead.remaining c.args.certificate.now) gives c.args.computation.now.request.now c.args.computation.now.input.now c.new.result.meter.lookups c.judge_all.new.work.meter.lookups c.judge_all.result
+    judged_some g.R.CountedRead.remaining c.args.outputs.now r (g.C.CountedRead.remaining c.args.certificate.now) gives c.args.computation.now.request.now c.args.computation.now.input.now c.new-work.result.meter.lookups c.judge_all.new.work.meter.lookups c.judge_all.result
     c.in_ok-outputs.ensures.opened (ap (λ xs. map g.R.CountedRead.remaining xs) c.in_ok-outputs.ensures.readers) c.requires.parts c.requires.known c.in_ok-walker.ensures.items c.judge_all.ensures.judged
