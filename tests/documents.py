@@ -108,4 +108,18 @@ def clauses_are_there(harness):
     harness.check("GUARANTEES has rows", many > 0, str(many))
 
 
-GROUPS = {"links": links_lead_somewhere, "guarantees": clauses_are_there}
+def tests_are_there(harness):
+    """Each test that `Only tested` names, in the last column of its tables, is a group of run.py or a path."""
+    import run
+
+    known = run.groups()
+    text = read(os.path.join(TOP, "docs", "GUARANTEES.md")).partition("\n## Only tested\n")[2].partition("\n## ")[0]
+    named = [name for line in text.splitlines() if line.startswith("| ") for name in re.findall(r"`([^`]+)`", line.split("|")[-2])]
+    for name in named:
+        front = name.removesuffix(" ..")
+        is_group = name in known or (front != name and any(group.startswith(front) for group in known))
+        harness.check(f"a test named {name}", is_group or os.path.exists(os.path.join(TOP, name)))
+    harness.check("GUARANTEES names tests", len(named) > 10, str(named))
+
+
+GROUPS = {"links": links_lead_somewhere, "guarantees": clauses_are_there, "only tested": tests_are_there}
