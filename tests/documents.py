@@ -122,4 +122,17 @@ def tests_are_there(harness):
     harness.check("GUARANTEES names tests", len(named) > 10, str(named))
 
 
-GROUPS = {"links": links_lead_somewhere, "guarantees": clauses_are_there, "only tested": tests_are_there}
+def layers_are_as_drawn(harness):
+    """In ARCHITECTURE's picture each crate is in a higher row than those that crates.txt lists for it, but for tests and the example."""
+    picture = re.search(r"^```\n(program.*?)^```", read(os.path.join(TOP, "docs", "ARCHITECTURE.md")), re.M | re.S)[1]
+    row = {name: at for at, line in enumerate(picture.splitlines()) for name in re.findall(r"mr_\w+", line)}
+    table = read(os.path.join(TOP, "docs", "ARCHITECTURE.md"))
+    for line in read(os.path.join(TOP, "crates.txt")).splitlines():
+        crate, _, below = line.partition(":")
+        harness.check(f"{crate} has a line", f"`{crate}`" in table)
+        if not crate.endswith("_tests") and crate != "mr_example":
+            lower = [name for name in below.split() if name in row and row[name] <= row.get(crate, -1)]
+            harness.check(f"{crate} is drawn above what it uses", crate in row and not lower, str(lower))
+
+
+GROUPS = {"links": links_lead_somewhere, "guarantees": clauses_are_there, "only tested": tests_are_there, "layers": layers_are_as_drawn}
