@@ -10,23 +10,19 @@ from harness import parts_of, read_result
 from plain import fnv
 from rows import plain
 
-FACTOR, MASK = 0x9E3779B97F4A7C15, 2**64 - 1
+FIRST, LAST, MASK = 0x9E3779B97F4A7C15, 0xC2B2AE3D27D4EB4F, 2**64 - 1
 SMALL = b"0123456789abcdefghijklmnopqrstuvwxyz"
 WORD = frozenset(SMALL) | frozenset(range(0x80, 0x100))
 
 
-def mixed(number, word):
-    """One step of the table's hash (crates/mr_keys/src/front.rt)."""
-    product = ((number ^ word) * FACTOR) & MASK
-    return product ^ (product >> 32)
-
-
 def colliding(count, draw):
-    """So many words of sixteen bytes, all of one hash: the second eight bytes undo what the first eight did."""
-    words, wanted = set(), draw.getrandbits(64)
+    """So many words of sixteen bytes, all of one hash (crates/mr_group/src/print.rt): the last eight bytes undo what the first
+    eight did."""
+    words, wanted, inverse = set(), draw.getrandbits(64), pow(LAST, -1, 2**64)
     while len(words) < count:
         first = bytes(draw.choice(SMALL) for _ in range(8))
-        second = struct.pack("<Q", mixed(16, int.from_bytes(first, "little")) ^ wanted)
+        last = ((wanted - int.from_bytes(first, "little") * FIRST) * inverse & MASK) ^ (16 << 56)
+        second = struct.pack("<Q", last)
         if WORD.issuperset(second):
             words.add(first + second)
     return sorted(words)
@@ -49,9 +45,9 @@ def counted_once(harness):
         harness.check(f"colliding words, {times} times each, judged", (status, err) == (0, b"") and out.startswith(b"yes: "), repr((status, out, err)))
 
 
-def waiting_keys(harness):
-    """So many words that those of a block wait for one another: new ones and known ones in one block, the same one twice in a
-    block, words longer than a slot tells of, and lines of many words and of few."""
+def many_words(harness):
+    """So many words that the table grows a dozen times: new ones and known ones, words longer than a slot tells of, and lines of
+    many words and of few."""
     draw = random.Random(64)
     words = [b"%x" % draw.getrandbits(40) + draw.choice((b"", b"", b"0123456789abcdef")) for _ in range(150_000)]
     told = words + draw.choices(words, k=60_000) + draw.choices(words[:50], k=40_000)
@@ -67,4 +63,4 @@ def waiting_keys(harness):
     harness.check("many words, judged", (status, out, err) == (0, b"yes: %d pairs, 0 left out\n" % len(told), b""), repr((status, out, err)))
 
 
-GROUPS = {"colliding words": counted_once, "words that wait": waiting_keys}
+GROUPS = {"colliding words": counted_once, "many words": many_words}

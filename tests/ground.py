@@ -144,7 +144,7 @@ def jobs_and_texts(harness):
         places = b"%s\t0:0\n%s\t12:4294967296\n" % (key, key)
         files = b"%s\t\n%s\t\n%s\t2,3,10\n%s\t0,12\n" % (key, key, key, key)
         rows.append(((TEXTS, key, b""), f"{listed(totals)} {listed(places)} {listed(files)}"))
-    # 70 keys, and then all of them again but for 20, and 30 more: 150 in two blocks of 64 and one of 22
+    # 70 keys, and then all of them again but for 20, and 30 more
     numbers = [i if i < 70 else i - 50 for i in range(150)]
     keys = "".join(f"|{listed(b'k' + bytes([i]))}" for i in range(100))
     rows.append(((NUMBERS, bytes(numbers), b""), f"{numbers} 0{keys}"))

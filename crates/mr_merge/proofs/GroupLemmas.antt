@@ -18,7 +18,7 @@ use Rattle.mr_spill.specs.Keyed.{AreKeyed, KeyEntries, key_cmp, names_with, pair
 use Rattle.mr_merge.specs.Groups.{group_with, no_group}
 use Rattle.mr_merge.specs.Merged.{Group, group_of, merged}
 use Rattle.mr_merge.proofs.SortedLaws.{sorted-front, sorted-is, sorted-same}
-use Rattle.mr_ranks.proofs.OrderLemmas.{key_tie}
+use Rattle.mr_group.proofs.OrderLemmas.{key_tie}
 
 -- ---- keys
 

@@ -21,7 +21,7 @@ use Rattle.mr_bytes.proofs.ListLaws.{Has-map}
 use Rattle.mr_merge.specs.Distinct.{packed}
 use Rattle.mr_merge.specs.Taking.{AreTaken, IsBegun, IsTaken}
 use Rattle.mr_merge.proofs.GatherLemmas.{All-weaker, differs, follows, later-last}
-use Rattle.mr_ranks.proofs.ListLemmas.{All-more}
+use Rattle.mr_group.proofs.ListLemmas.{All-more}
 
 -- ---- a pair of a region
 

@@ -1,8 +1,8 @@
-//! More kernels, of a case's two texts: jobs, what `map` adds, texts of groups, and keys that wait for their numbers.
+//! More kernels, of a case's two texts: jobs, what `map` adds, texts of groups, and numbers of keys.
 use crate::telling::Teller;
 use mr_bytes::{Value, ValueColumn};
+use mr_group::Interner;
 use mr_jobs::{Emissions, Job, RecordStart, map};
-use mr_keys::{Keys, Waiting};
 use mr_reduce::{append_text, append_total, group_text};
 use std::alloc::{AllocError, Global};
 
@@ -148,68 +148,44 @@ fn show_texts(teller: &Teller, key: &[u8]) -> Result<(), AllocError> {
     }
 }
 
-/// One more key, behind a block that gets its numbers where no more may wait.
-fn wait(
-    alloc: Global,
-    key: &[u8],
-    keys: &mut Keys,
-    waiting: &mut Waiting,
-    numbers: &mut Vec<u32>,
-) -> Result<(), AllocError> {
-    if waiting.len() == 64 && keys.len() < MANY {
-        keys.number_all(alloc, waiting, numbers)?;
-    }
-    if waiting.len() < 64 {
-        waiting.push(key)?;
-    }
-    Ok(())
-}
-
-/// Adds the numbers of keys of two bytes, of which the second is told.
+/// Adds the number of a key, while there are few.
 fn number(
     alloc: Global,
-    bytes: &[u8],
-    keys: &mut Keys,
-    waiting: &mut Waiting,
+    key: &[u8],
+    keys: &mut Interner,
     numbers: &mut Vec<u32>,
 ) -> Result<(), AllocError> {
-    for byte in bytes {
-        wait(alloc, &[b'k', *byte], keys, waiting, numbers)?;
-    }
-    if keys.len() < MANY && waiting.len() <= 64 {
-        keys.number_all(alloc, waiting, numbers)?;
+    if keys.len() < MANY {
+        numbers.push(keys.number_of(alloc, key)?)?;
     }
     Ok(())
 }
 
-/// The numbers of those keys, and how many still wait.
-fn numbered(alloc: Global, bytes: &[u8], keys: &mut Keys) -> Result<(Vec<u32>, usize), AllocError> {
-    let mut waiting = Waiting::new(alloc);
+/// The numbers of keys of two bytes, of which the second is told.
+fn numbered(alloc: Global, bytes: &[u8], keys: &mut Interner) -> Result<Vec<u32>, AllocError> {
     let mut numbers = Vec::new(alloc);
-    number(alloc, bytes, keys, &mut waiting, &mut numbers)?;
-    Ok((numbers, waiting.len()))
-}
-
-/// The numbers, and how many keys still wait.
-fn show_numbers(teller: &Teller, bytes: &[u8], keys: &mut Keys) -> Result<(), AllocError> {
-    let (numbers, waiting) = numbered(teller.alloc(), bytes, keys)?;
-    teller.before(&numbers, " ");
-    teller.part(&waiting);
-    Ok(())
+    for byte in bytes {
+        number(alloc, &[b'k', *byte], keys, &mut numbers)?;
+    }
+    Ok(numbers)
 }
 
 /// The key of each number.
-fn show_each_key(teller: &Teller, keys: &Keys) {
+fn show_each_key(teller: &Teller, keys: &Interner) {
     for number in 0..keys.len() {
         teller.behind("|", &keys.get(number));
     }
     teller.end_line();
 }
 
-/// Numbers the keys, and tells what comes of it.
+/// Numbers the keys, and tells what comes of it; how many are left behind `clear`.
 fn show_keys(teller: &Teller, bytes: &[u8]) -> Result<(), AllocError> {
-    let mut keys = Keys::new(teller.alloc());
-    show_numbers(teller, bytes, &mut keys)?;
+    let mut keys = Interner::new(teller.alloc());
+    teller.before(&numbered(teller.alloc(), bytes, &mut keys)?, " ");
+    let mut again = Interner::new(teller.alloc());
+    let _numbers = numbered(teller.alloc(), bytes, &mut again)?;
+    again.clear();
+    teller.part(&again.len());
     show_each_key(teller, &keys);
     Ok(())
 }

@@ -27,7 +27,7 @@ use Rattle.mr_sequential.proofs.NamedLaws.{triples_under, named-of, triple_order
 use Rattle.mr_sequential.proofs.SkipLaws.{good_skips}
 use Rattle.mr_sequential.proofs.EntryLaws.{names_total, EachFrom, distinct_entries}
 use Rattle.mr_sequential.proofs.GoodLaws.{flat_map-agree, keys-triple, triple-keys, key_of_triple}
-use Rattle.mr_ranks.proofs.ListLemmas.{Has-range}
+use Rattle.mr_group.proofs.ListLemmas.{Has-range}
 
 names_from : (ts : List Triple) → Rises triple_order ts → Rises name_order (map (λ (t : Triple). t.name) ts)
 names_from [] r = tt

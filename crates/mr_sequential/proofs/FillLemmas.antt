@@ -9,11 +9,11 @@ use Rattle.mr_bytes.specs.declared.Value.{Value}
 use Rattle.mr_jobs.specs.JobSpec.{JobSpec, counts}
 use Rattle.mr_reduce.specs.Text.{text_of, total_line}
 use Rattle.mr_reduce.proofs.TextLemmas.{counters_tell_the_number}
-use Rattle.mr_ranks.specs.declared.rows.Row.{Row}
-use Rattle.mr_ranks.specs.Buckets.{before, size, bucket}
-use Rattle.mr_ranks.specs.Rows.{no_row}
+use Rattle.mr_group.specs.declared.rows.Row.{Row}
+use Rattle.mr_group.specs.Buckets.{before, size, bucket}
+use Rattle.mr_group.specs.Rows.{no_row}
 use Rattle.mr_splits.specs.Named.{NamedRecord}
-use Rattle.mr_ranks.proofs.BucketLemmas.{before-more, before-rises, before-sizes, bucket-cons, one-same, one-other, bucket-map}
+use Rattle.mr_group.proofs.BucketLemmas.{before-more, before-rises, before-sizes, bucket-cons, one-same, one-other, bucket-map}
 use Rattle.mr_sequential.specs.Names.{value_under}
 use Rattle.mr_sequential.specs.Rows.{bucket_text, count_line, names_text, row_names, row_start, row_texts}
 use Rattle.mr_sequential.proofs.TextLemmas.{row_texts-congr}

@@ -23,7 +23,7 @@ use Rattle.mr_sequential.proofs.KeyLaws.{bytes_eq-is, bytes_eq-same, keys_rise}
 use Rattle.mr_sequential.proofs.NameLaws.{names_rise}
 use Rattle.mr_sequential.proofs.NamedLaws.{triples_under, some_is, named-Has, named-of, Has-filter_map, Has-filter_map_from, triple_order, rises_by_name, triples-rise}
 use Rattle.mr_sequential.proofs.EntryLaws.{names_total, key_in_group, part_in_group, entries_are_distinct, none_is_left_out}
-use Rattle.mr_ranks.proofs.ListLemmas.{Has-Contains, same_image}
+use Rattle.mr_group.proofs.ListLemmas.{Has-Contains, same_image}
 use Rattle.std.proofs.lemmas.List.{get_or_default}
 
 triples_total : IsTotalOrder triple_order

@@ -15,7 +15,7 @@ use Rattle.mr_sequential.specs.Emitted.{emitted}
 use Rattle.mr_sequential.specs.Rules.{rules_of}
 use Rattle.mr_sequential.specs.Laws.{HasJust, KeysRise, KeysAreUnique, OutputsAreInKeyOrder}
 use Rattle.mr_bytes.proofs.ListLaws.{Has-all, all_from_Has, same_rising}
-pub use Rattle.mr_ranks.proofs.OrderLemmas.{key_tie}
+pub use Rattle.mr_group.proofs.OrderLemmas.{key_tie}
 
 pub bytes_eq-is : (j k : List ℕ) → bytes_eq j k ≡ true → j ≡ k
 bytes_eq-is j k e = (bytes_decides j k).0 e

@@ -1,7 +1,6 @@
 pub mod CertifiedLaws
 pub mod EntryLaws
 pub mod FillLemmas
-pub mod GatheredLemmas
 pub mod GoodLaws
 pub mod GroupLemmas
 pub mod KeyLaws

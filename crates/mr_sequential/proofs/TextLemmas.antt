@@ -3,8 +3,8 @@ use Rattle.std.proofs.Common.{◌≡◌, ◌≢◌, ℕ, suc, ◌+◌, ◌<◌, 
 use Rattle.std.proofs.lemmas.Bool.{cases_eq, eq-eqb, ne_eqb}
 use Rattle.std.proofs.lemmas.List.{at_drop_more, at_drop_all, map-set, get_or-map, get_or-set_same, get_or-set_other, append-nil}
 use Rattle.mr_input.specs.Files.{contents, nth_file}
-use Rattle.mr_ranks.specs.declared.rows.Row.{Row}
-use Rattle.mr_ranks.specs.Rows.{no_row}
+use Rattle.mr_group.specs.declared.rows.Row.{Row}
+use Rattle.mr_group.specs.Rows.{no_row}
 use Rattle.mr_sequential.specs.Rows.{row_texts}
 
 -- one text of many gets more bytes

@@ -22,7 +22,7 @@ use Rattle.mr_splits.proofs.NumberLemmas.{numbers-count}
 use Rattle.mr_sequential.specs.Emitted.{emitted, placed_from, record_triples}
 use Rattle.mr_sequential.specs.Names.{names_from, names_beside, IsOfRecord, value_under}
 use Rattle.mr_sequential.specs.Pairs.{valued}
-use Rattle.mr_ranks.proofs.ListLemmas.{Has-at, Has-Contains}
+use Rattle.mr_group.proofs.ListLemmas.{Has-at, Has-Contains}
 use Rattle.mr_sequential.proofs.SourceLemmas.{pair_of}
 
 -- the record of that name is this one

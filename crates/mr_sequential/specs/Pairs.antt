@@ -8,18 +8,9 @@ use Rattle.mr_bytes.specs.declared.RecordName.{RecordName}
 use Rattle.mr_jobs.specs.JobSpec.{JobSpec}
 use Rattle.mr_jobs.specs.Emissions.{Emission, emissions}
 use Rattle.mr_splits.specs.Named.{NamedRecord, is_left_out}
-use Rattle.mr_keys.specs.Keys.{key_at}
-use Rattle.mr_ranks.specs.Buckets.{bucket}
+use Rattle.mr_group.specs.Buckets.{bucket}
 use Rattle.mr_sequential.specs.Sequential.{keys_of}
 use Rattle.mr_sequential.specs.Names.{value_under}
-
--- the keys that numbers stand for
-abbrev pub keyed : List (List ℕ) → List ℕ → List (List ℕ)
-keyed keys numbers = map (key_at keys) numbers
-
--- the same, where the keys of the last pairs have no numbers yet: those wait
-abbrev pub waited : List (List ℕ) → List ℕ → List (List ℕ) → List (List ℕ)
-waited keys numbers waiting = map (key_at keys) numbers ++ waiting
 
 -- the buckets of the numbers below n
 abbrev pub buckets : {X : Type 0} → ℕ → List (ℕ × X) → List (List X)

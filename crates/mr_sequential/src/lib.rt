@@ -7,9 +7,6 @@ ghost use Rattle.mr_sequential.specs.Laws.{KeysAreUnique, KeysRise, NamesRise};
 ghost use Rattle.mr_sequential.specs.Laws.{OutputsAreInKeyOrder};
 ghost use Rattle.mr_sequential.specs.Skips.{GoodSkips};
 
-mod distribute;
-mod gathered;
-mod gathering;
 mod groups;
 mod outputs;
 mod sequence;

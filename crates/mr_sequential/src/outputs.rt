@@ -6,7 +6,7 @@ ghost use Rattle.mr_certform.specs.Flat.{AreCounted, chunks};
 ghost use Rattle.mr_input.specs.Files.{contents, nth_file};
 ghost use Rattle.mr_bytes.specs.declared.By.{By};
 ghost use Rattle.mr_partition.specs.Hosts.{partition_by};
-ghost use Rattle.mr_ranks.specs.Rows.{row_cmp};
+ghost use Rattle.mr_group.specs.Rows.{row_cmp};
 ghost use Rattle.mr_reduce.specs.Text.{text_of};
 ghost use Rattle.mr_splits.specs.Cut.{records_of};
 ghost use Rattle.mr_splits.specs.Kept.{kept_records};
@@ -14,13 +14,12 @@ ghost use Rattle.mr_sequential.specs.Names.{names_beside, value_under};
 ghost use Rattle.mr_sequential.specs.Pairs.{groups_in, texts_in, valued};
 ghost use Rattle.mr_sequential.specs.Rows.{AreGrouped, bucket_text, row_texts};
 
-use crate::gathered::Gathered;
 use crate::groups::grouped;
 use crate::texts::texts_of;
 use mr_bytes::By;
 use mr_certform::FlatGroups;
+use mr_group::{KeyColumn, RankedPairs, Row, ranked};
 use mr_jobs::Job;
-use mr_ranks::{RankedPairs, Row, ranked};
 use mr_splits::KeptPlan;
 use std::alloc::{AllocError, Global};
 
@@ -62,7 +61,7 @@ pub(crate) fn outputs(
     alloc: Global,
     job: &Job,
     kept: &KeptPlan<'_>,
-    gathered: Gathered,
+    gathered: KeyColumn,
     counts: Vec<u32>,
     by: By,
     parts: u32,
@@ -85,7 +84,7 @@ pub(crate) fn outputs(
         (names_beside (kept_records kept.now.skips (records_of kept.now.cut)) counts.items))
         (range_with_len 0 parts)) }
 {
-    let Gathered { keys, numbers } = gathered;
+    let (keys, numbers) = gathered.into_parts();
     let RankedPairs { rows, numbers } = ranked(alloc, &keys, by, parts, numbers)?;
     outputs_by_rank(alloc, job, kept, rows.as_slice(), numbers, counts, parts)
 }

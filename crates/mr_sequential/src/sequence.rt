@@ -181,13 +181,13 @@ fn outputs_of(
     // Files within the limits of an input emit fewer pairs than a u32 numbers.
     let _files = kept.plan().input().files();
     let job = request.job();
-    let Emitted { pairs, counts } = gather(alloc, job, kept, watch)?;
+    let Emitted { keys, counts } = gather(alloc, job, kept, watch)?;
     watch.report(Phase::Reducing, 0, 1);
     let made = outputs(
         alloc,
         job,
         kept,
-        pairs,
+        keys,
         counts,
         request.by(),
         request.parts(),

@@ -9,9 +9,8 @@ ghost use Rattle.mr_splits.specs.Kept.{kept_records};
 ghost use Rattle.mr_sequential.specs.Names.{pair_count};
 ghost use Rattle.mr_sequential.specs.Pairs.{kept_pairs};
 
-use crate::gathered::Gathered;
-use crate::gathering::Gathering;
 use mr_bytes::{Phase, Progress, Throttle};
+use mr_group::KeyColumn;
 use mr_jobs::{Job, Mapper};
 use mr_splits::{KeptPlan, RecordAt};
 use std::alloc::{AllocError, Global};
@@ -21,21 +20,21 @@ fn gather_record(
     mapper: &mut Mapper<'_, '_>,
     line: RecordAt<'_>,
     buffer: &mut Vec<u8>,
-    gathering: &mut Gathering,
+    keys: &mut KeyColumn,
 ) -> Result<(), AllocError>
     requires small { length line.bytes.now ≤ 2 ^ 30 }
     requires line { IsLine mapper.old.files line.file line.start line.bytes.now }
-    requires few { length gathering.old
+    requires few { length keys.old
         + length (emissions mapper.old.job line.file line.start line.bytes.now) < 2 ^ 32 }
     ensures same { mapper.new ≡ mapper.old }
-    ensures keys { OnOk result (gathering.new
-        ≡ gathering.old ++ map (λ e. e.0)
+    ensures keys { OnOk result (keys.new
+        ≡ keys.old ++ map (λ e. e.0)
         (emissions mapper.old.job line.entry.file line.entry.start line.entry.bytes.now)) }
 {
     mapper.job().fold_line(line.bytes, buffer)?;
     let mut emitter = mapper.emit(line.file, line.start, line.bytes, buffer.as_slice());
     while let Some((key, _)) = emitter.next() {
-        gathering.push(alloc, key)?;
+        keys.push(alloc, key)?;
     }
     Ok(())
 }
@@ -44,14 +43,8 @@ fn gather_record(
 /// and names give the values.
 #[derive(Drop)]
 pub(crate) struct Emitted {
-    pub pairs: Gathered,
+    pub keys: KeyColumn,
     pub counts: Vec<u32>,
-}
-
-#[derive(Drop)]
-struct Emitting {
-    pairs: Gathering,
-    counts: Vec<u32>,
 }
 
 fn gather_one(
@@ -59,24 +52,24 @@ fn gather_one(
     mapper: &mut Mapper<'_, '_>,
     line: RecordAt<'_>,
     buffer: &mut Vec<u8>,
-    emitting: &mut Emitting,
+    emitted: &mut Emitted,
 ) -> Result<(), AllocError>
     requires small { length line.bytes.now ≤ 2 ^ 30 }
     requires line { IsLine mapper.old.files line.file line.start line.bytes.now }
-    requires few { length emitting.old.pairs
+    requires few { length emitted.old.keys
         + length (emissions mapper.old.job line.file line.start line.bytes.now) < 2 ^ 32 }
     ensures same { mapper.new ≡ mapper.old }
-    ensures keys { OnOk result (emitting.new.pairs
-        ≡ emitting.old.pairs ++ map (λ e. e.0)
+    ensures keys { OnOk result (emitted.new.keys
+        ≡ emitted.old.keys ++ map (λ e. e.0)
         (emissions mapper.old.job line.entry.file line.entry.start line.entry.bytes.now)) }
-    ensures counts { OnOk result (emitting.new.counts.items
-        ≡ emitting.old.counts.items ++ length
+    ensures counts { OnOk result (emitted.new.counts.items
+        ≡ emitted.old.counts.items ++ length
         (emissions mapper.old.job line.entry.file line.entry.start line.entry.bytes.now) ∷ []) }
 {
-    let before = emitting.pairs.len();
-    gather_record(alloc, mapper, line, buffer, &mut emitting.pairs)?;
-    let count = emitting.pairs.len() - before;
-    emitting.counts.push(count as u32)?;
+    let before = emitted.keys.len();
+    gather_record(alloc, mapper, line, buffer, &mut emitted.keys)?;
+    let count = emitted.keys.len() - before;
+    emitted.counts.push(count as u32)?;
     Ok(())
 }
 
@@ -85,14 +78,14 @@ fn gather_all(
     job: &Job,
     kept: &KeptPlan<'_>,
     watch: &dyn Progress,
-    emitting: &mut Emitting,
+    emitted: &mut Emitted,
 ) -> Result<(), AllocError>
     requires few { length (flat_map (kept_pairs job.now kept.now.skips) (records_of kept.now.cut)) < 2 ^ 32 }
-    requires no_keys { emitting.old.pairs ≡ [] }
-    requires no_counts { emitting.old.counts.items ≡ [] }
-    ensures keys { OnOk result (emitting.new.pairs ≡ map
+    requires no_keys { emitted.old.keys ≡ [] }
+    requires no_counts { emitted.old.counts.items ≡ [] }
+    ensures keys { OnOk result (emitted.new.keys ≡ map
         (λ e. e.0) (flat_map (kept_pairs job.now kept.now.skips) (records_of kept.now.cut))) }
-    ensures counts { OnOk result (emitting.new.counts.items
+    ensures counts { OnOk result (emitted.new.counts.items
         ≡ map (pair_count job.now) (kept_records kept.now.skips (records_of kept.now.cut))) }
 {
     let plan = kept.plan();
@@ -104,7 +97,7 @@ fn gather_all(
     while let Some((_, line)) = left.next() {
         pace.reach(done, watch);
         done = done.saturating_add(1);
-        gather_one(alloc, &mut mapper, line, &mut buffer, emitting)?;
+        gather_one(alloc, &mut mapper, line, &mut buffer, emitted)?;
     }
     Ok(())
 }
@@ -118,19 +111,15 @@ pub(crate) fn gather(
     watch: &dyn Progress,
 ) -> Result<Emitted, AllocError>
     requires few { length (flat_map (kept_pairs job.now kept.now.skips) (records_of kept.now.cut)) < 2 ^ 32 }
-    ensures keys { IfOk result (λ e. e.pairs ≡ map
+    ensures keys { IfOk result (λ e. e.keys ≡ map
         (λ e. e.0) (flat_map (kept_pairs job.now kept.now.skips) (records_of kept.now.cut))) }
     ensures counts { IfOk result (λ e. e.counts.items
         ≡ map (pair_count job.now) (kept_records kept.now.skips (records_of kept.now.cut))) }
 {
-    let mut emitting = Emitting {
-        pairs: Gathering::new(alloc),
+    let mut emitted = Emitted {
+        keys: KeyColumn::new(alloc),
         counts: Vec::new(alloc),
     };
-    gather_all(alloc, job, kept, watch, &mut emitting)?;
-    let Emitting { pairs, counts } = emitting;
-    Ok(Emitted {
-        pairs: pairs.finish(alloc)?,
-        counts,
-    })
+    gather_all(alloc, job, kept, watch, &mut emitted)?;
+    Ok(emitted)
 }

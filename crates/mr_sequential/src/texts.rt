@@ -10,8 +10,8 @@ ghost use Rattle.mr_sequential.specs.Rows.{count_line, names_text, row_names, ro
 
 use mr_bytes::{Name, ValueColumn};
 use mr_certform::FlatGroups;
+use mr_group::Row;
 use mr_jobs::Job;
-use mr_ranks::Row;
 use mr_reduce::{append_text, append_total, group_text};
 use mr_splits::Plan;
 use std::alloc::{AllocError, Global};

@@ -5,7 +5,7 @@ use Rattle.std.specs.Ordering.{is_lt}
 use Rattle.std.specs.declared.cmp.Ordering.TheVariants.{Less}
 use Rattle.mr_bytes.specs.Order.{key_order}
 use Rattle.mr_jobs.specs.JobSpec.{JobSpec}
-use Rattle.mr_ranks.specs.Front.{AreBytes, first_bytes}
+use Rattle.mr_group.specs.FirstBytes.{AreBytes, first_bytes}
 use Rattle.mr_shards.specs.declared.cursor.Cursor.{Cursor}
 use Rattle.mr_shards.specs.declared.line.Line.{Line}
 use Rattle.mr_shards.specs.Merged.{Group, group_text, moved_group, joined, with_group}

@@ -16,7 +16,7 @@ use itoa::Buffer;
 use memchr::{memchr, memrchr};
 use mr_bytes::Value;
 use mr_jobs::Job;
-use mr_ranks::front_of;
+use mr_group::front_of;
 use mr_reduce::{append_total, group_text};
 use std::alloc::AllocError;
 

@@ -9,7 +9,7 @@ use Rattle.mr_bytes.specs.declared.Value.TheVariants.{One}
 use Rattle.mr_bytes.specs.Pairs.{Triple}
 use Rattle.mr_spill.specs.Column.{triples_of, key_of, IsSpan, names_of, no_pair}
 use Rattle.mr_bytes.proofs.ListLaws.{Has-all}
-use Rattle.mr_ranks.proofs.ListLemmas.{Has-at}
+use Rattle.mr_group.proofs.ListLemmas.{Has-at}
 
 -- a part of a list that has grown behind it
 pub range-more : {X : Type 0} (xs ys : List X) (a b : ℕ) → a ≤ b → b ≤ length xs → slice_range (xs ++ ys) a b ≡ slice_range xs a b

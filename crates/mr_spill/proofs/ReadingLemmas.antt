@@ -13,7 +13,7 @@ use Rattle.mr_spill.specs.Column.{nth_pair}
 use Rattle.mr_spill.specs.Reading.{AreRead, MayFollow}
 use Rattle.mr_spill.specs.Spelling.{PairFits, SpellsRegion, ValueFits, header, magic, name_bytes, pair_bytes, u32, u64, value_bytes}
 use Rattle.mr_spill.proofs.RegionLaws.{pair_total}
-use Rattle.mr_ranks.proofs.ListLemmas.{All-more}
+use Rattle.mr_group.proofs.ListLemmas.{All-more}
 
 pub front-cut : (a b xs ys : List ℕ) → length a ≡ length b → a ++ xs ≡ b ++ ys → (a ≡ b) × (xs ≡ ys)
 front-cut [] [] xs ys l e = (refl, e)

@@ -15,7 +15,7 @@ use Rattle.mr_bytes.proofs.ListLaws.{Has-all, all_from_Has, Has-map, Has-filter,
 use Rattle.mr_bytes.proofs.SortLaws.{rising_tie, sorted-Has, sorted-Has_from, sorted-rises}
 use Rattle.mr_spill.specs.Column.{names_of}
 use Rattle.mr_spill.specs.Regions.{region, RegionsHave, RegionsRise, RisesUnderKeys}
-use Rattle.mr_ranks.proofs.OrderLemmas.{key_tie, then-equal}
+use Rattle.mr_group.proofs.OrderLemmas.{key_tie, then-equal}
 
 pub names_total : IsTotalOrder name_order
 names_total =

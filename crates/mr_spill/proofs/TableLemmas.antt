@@ -7,11 +7,11 @@ use Rattle.std.specs.List.{zip}
 use Rattle.std.specs.Str.{bytes_eq}
 use Rattle.mr_bytes.specs.Lists.{Has}
 use Rattle.mr_bytes.specs.Pairs.{Triple}
-use Rattle.mr_ranks.specs.Buckets.{bucket}
+use Rattle.mr_group.specs.Buckets.{bucket}
 use Rattle.mr_spill.specs.Entries.{Entry, under_key}
 use Rattle.mr_spill.specs.Table.{IsTable, Knows, numbered, under}
-use Rattle.mr_keys.specs.Keys.{key_at}
-use Rattle.mr_ranks.proofs.BucketLemmas.{bucket-cons, one-other, one-same}
+use Rattle.mr_group.specs.Interner.{key_at}
+use Rattle.mr_group.proofs.BucketLemmas.{bucket-cons, one-other, one-same}
 
 -- ---- one more pair
 

@@ -5,7 +5,7 @@ use Rattle.mr_bytes.specs.declared.Name.{Name}
 use Rattle.mr_bytes.specs.declared.Value.{Value}
 use Rattle.mr_bytes.specs.declared.Value.TheVariants.{One}
 use Rattle.mr_bytes.specs.Pairs.{Triple}
-use Rattle.mr_ranks.specs.Buckets.{start_of}
+use Rattle.mr_group.specs.Buckets.{start_of}
 
 -- what a pair has beside its key
 abbrev pub Entry : Type 0

@@ -4,7 +4,7 @@ use Rattle.std.specs.List.{zip}
 use Rattle.std.specs.Str.{bytes_eq}
 use Rattle.mr_bytes.specs.Lists.{Has}
 use Rattle.mr_bytes.specs.Pairs.{Triple}
-use Rattle.mr_keys.specs.Keys.{key_at}
+use Rattle.mr_group.specs.Interner.{key_at}
 use Rattle.mr_spill.specs.Entries.{Entry, under_key}
 
 -- the pair of an entry that has the number of its key

@@ -12,7 +12,6 @@
 mod buffer;
 mod cursor;
 mod dir_store;
-mod distribute;
 mod entries;
 mod keyed;
 mod lists;

@@ -1,7 +1,7 @@
 //! Pairs whose keys are numbers: each distinct key is stored once, a few perhaps more often.
 ghost use Rattle.std.specs.Prelude.{◌≡◌, ℕ, ◌-◌, ◌≤◌, ◌<◌, ◌^◌, ◌++◌, ◌∷◌, [], IfOk, IsTrue, OnOk};
 ghost use Rattle.std.specs.Prelude.{OnErr, length};
-ghost use Rattle.mr_keys.specs.Keys.{IsKeyAt, key_at};
+ghost use Rattle.mr_group.specs.Interner.{IsKeyAt, key_at};
 ghost use Rattle.mr_spill.specs.Column.{nth_pair};
 ghost use Rattle.mr_spill.specs.Cursor.{EndsWithKey, lent_pair};
 
@@ -9,7 +9,7 @@ use crate::cursor::RegionPair;
 use crate::entries::Entries;
 use crate::pair_columns::PairColumns;
 use mr_bytes::{Name, Value};
-use mr_keys::Keys;
+use mr_group::Interner;
 use std::alloc::{AllocError, Global};
 use std::marker::Model;
 
@@ -18,7 +18,7 @@ use std::marker::Model;
 #[derive(Drop)]
 pub struct Numbered {
     alloc: Global,
-    pub(crate) keys: Keys,
+    pub(crate) keys: Interner,
     pub(crate) numbers: Vec<u32>,
     pub(crate) entries: Entries,
 }
@@ -41,7 +41,7 @@ impl Model for Numbered {
 }
 
 /// A number of the key, new if none is found. Fails only for want of memory, and then adds no key.
-fn number_of(alloc: Global, keys: &mut Keys, key: &[u8]) -> Result<u32, AllocError>
+fn number_of(alloc: Global, keys: &mut Interner, key: &[u8]) -> Result<u32, AllocError>
     requires known { length keys.old < 2 ^ 32 }
     ensures known { length keys.new < 2 ^ 32 }
     ensures found { IfOk result (λ at. IsKeyAt keys.new at key.now) }
@@ -62,7 +62,7 @@ impl Numbered {
     {
         Numbered {
             alloc,
-            keys: Keys::new(alloc),
+            keys: Interner::new(alloc),
             numbers: Vec::new(alloc),
             entries: Entries::new(alloc),
         }

@@ -7,7 +7,7 @@ ghost use Rattle.std.specs.List.{range_with_len};
 ghost use Rattle.mr_bytes.specs.Lists.{Rises};
 ghost use Rattle.mr_partition.specs.Hosts.{partition_by};
 ghost use Rattle.mr_spill.specs.Regions.{RegionsHave, RegionsRise, RisesUnderKeys, regions};
-ghost use Rattle.mr_ranks.specs.Rows.{row_cmp};
+ghost use Rattle.mr_group.specs.Rows.{row_cmp};
 ghost use Rattle.mr_spill.specs.Rows.{AreListed, behind, front, pairs_in, row_pairs};
 ghost use Rattle.mr_spill.specs.Table.{pairs_under};
 
@@ -15,7 +15,7 @@ use crate::lists::{Lists, lists_of};
 use crate::numbered::Numbered;
 use crate::pair_columns::PairColumns;
 use mr_bytes::By;
-use mr_ranks::{RankedPairs, Row, ranked};
+use mr_group::{RankedPairs, Row, ranked};
 use std::alloc::{AllocError, Global};
 
 /// The row at this place if it is of this partition.

@@ -4,7 +4,7 @@ ghost use Rattle.std.specs.Prelude.{All, length, map, drop, slice_index_or};
 ghost use Rattle.std.specs.List.{AllByRecursion, flat_map};
 ghost use Rattle.mr_bytes.specs.Lists.{Rises};
 ghost use Rattle.mr_partition.specs.Hosts.{partition_by};
-ghost use Rattle.mr_ranks.specs.Rows.{row_cmp};
+ghost use Rattle.mr_group.specs.Rows.{row_cmp};
 ghost use Rattle.mr_spill.specs.Regions.{RisesUnderKeys, region};
 ghost use Rattle.mr_spill.specs.Rows.{behind, front, pairs_in, row_pairs};
 ghost use Rattle.mr_spill.specs.Sealed.{AreFor, IsText, SpellsRun};
@@ -18,7 +18,7 @@ use crate::numbered::Numbered;
 use crate::regions::{row_in, rows_with_lists};
 use crate::spelling::{put_header, put_pair};
 use mr_bytes::{By, Value};
-use mr_ranks::Row;
+use mr_group::Row;
 use std::alloc::{AllocError, Global};
 use std::marker::Model;
 

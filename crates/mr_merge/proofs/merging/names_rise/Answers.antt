@@ -3,7 +3,7 @@ use Rattle.mr_bytes.specs.declared.Name.{Name}
 use Rattle.mr_spill.proofs.RegionLaws.{names_total}
 use Rattle.mr_merge.proofs.SoundLemmas.{rises-more}
 use Rattle.mr_merge.proofs.merging.names_rise.Goals as goal
-use Rattle.mr_ranks.proofs.ListLemmas.{rises-at}
+use Rattle.mr_group.proofs.ListLemmas.{rises-at}
 use Rattle.mr_bytes.specs.Order.{name_order}
 
 pub returns-then-not-is_less : goal.returns-then-not-is_less

@@ -3,7 +3,7 @@ use Rattle.mr_spill.specs.Column.{no_pair}
 use Rattle.mr_spill.proofs.RegionLaws.{pair_total}
 use Rattle.mr_merge.proofs.SoundLemmas.{rises-more}
 use Rattle.mr_merge.proofs.merging.pairs_rise.Goals as goal
-use Rattle.mr_ranks.proofs.ListLemmas.{rises-at}
+use Rattle.mr_group.proofs.ListLemmas.{rises-at}
 use Rattle.mr_bytes.specs.Pairs.{pair_order}
 
 pub returns-then-not-is_before : goal.returns-then-not-is_before

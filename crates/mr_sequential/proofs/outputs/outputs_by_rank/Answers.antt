@@ -1,8 +1,8 @@
 use Rattle.std.proofs.Common.{ℕ, List, All, length, sym, ap, ◌∙◌, arith, subst}
 use Rattle.std.specs.List.{zip}
 use Rattle.mr_bytes.specs.declared.Name.{Name}
-use Rattle.mr_ranks.specs.declared.rows.Row.{Row}
-use Rattle.mr_ranks.proofs.BucketLemmas.{before-total, length-zip}
+use Rattle.mr_group.specs.declared.rows.Row.{Row}
+use Rattle.mr_group.proofs.BucketLemmas.{before-total, length-zip}
 use Rattle.mr_splits.specs.Named.{NamedRecord}
 use Rattle.mr_splits.specs.Cut.{Cut, records_of}
 use Rattle.mr_splits.specs.Kept.{kept_records}

@@ -68,7 +68,7 @@ outputs-requires-clause-few g c =
     let few : length files ≤ 1024 = limits c.input.result.now files c.files-files.result same c.files-files.ensures.count c.files-files.ensures.few in
     omega (
       arith,
-      ap length c.in_ok-pairs.ensures.keys,
+      ap length c.in_ok-keys.ensures.keys,
       length-map (flat_map (kept_pairs job kept.skips) (records_of kept.cut)) (λ (e : Emission). e.0),
       few_pairs job kept.skips kept.cut.size files few small,
     )
@@ -77,9 +77,9 @@ pub outputs-requires-clause-all : goal.outputs-requires-clause-all
 outputs-requires-clause-all g c =
     let request = c.args.request.now in
     let kept : Choice = c.args.kept.now in
-    let keys = keys_are request kept.cut.files kept.skips c.job-job.result.now kept.cut.size c.in_ok-pairs.field-0.pairs c.job-job.ensures.same c.requires.size c.in_ok-pairs.ensures.keys in
-    let names = names_are request kept.cut.files kept.skips c.job-job.result.now kept.cut.size c.in_ok-pairs.field-0.counts.items c.job-job.ensures.same c.requires.size
-    c.in_ok-pairs.ensures.counts in
+    let keys = keys_are request kept.cut.files kept.skips c.job-job.result.now kept.cut.size c.in_ok-keys.field-0.keys c.job-job.ensures.same c.requires.size c.in_ok-keys.ensures.keys in
+    let names = names_are request kept.cut.files kept.skips c.job-job.result.now kept.cut.size c.in_ok-keys.field-0.counts.items c.job-job.ensures.same c.requires.size
+    c.in_ok-keys.ensures.counts in
     omega (arith, ap length keys, ap length names, even_lists (emitted request.job request.split kept.cut.files kept.skips))
 
 pub returns-clause-texts : goal.returns-clause-texts
@@ -90,13 +90,13 @@ returns-clause-texts g c = λ p h.
     let size : ℕ = c.args.kept.now.cut.size in
     let ts : List Triple = emitted request.job request.split files skips in
     let job : JobSpec = request.job in
-    let ks : List (List ℕ) = c.in_ok-pairs.field-0.pairs in
-    let ns : List Name = names_beside (kept_records skips (named_records size files)) c.in_ok-pairs.field-0.counts.items in
+    let ks : List (List ℕ) = c.in_ok-keys.field-0.keys in
+    let ns : List Name = names_beside (kept_records skips (named_records size files)) c.in_ok-keys.field-0.counts.items in
     let n : ℕ = c.parts.result in
     let b = c.by.result in
     let used : JobSpec = c.job-job.result.now in
-    let keys = keys_are request files skips used size ks c.job-job.ensures.same c.requires.size c.in_ok-pairs.ensures.keys in
-    let names = names_are request files skips used size c.in_ok-pairs.field-0.counts.items c.job-job.ensures.same c.requires.size c.in_ok-pairs.ensures.counts in
+    let keys = keys_are request files skips used size ks c.job-job.ensures.same c.requires.size c.in_ok-keys.ensures.keys in
+    let names = names_are request files skips used size c.in_ok-keys.field-0.counts.items c.job-job.ensures.same c.requires.size c.in_ok-keys.ensures.counts in
     let some : 0 < request.split = omega (arith, c.requires.some, c.requires.size) in
     let pairs : valued used (named_records size files) ks ns ≡ map pair_of ts =
     ap (λ (t : JobSpec). valued t (named_records size files) ks ns) c.job-job.ensures.same
@@ -118,10 +118,10 @@ returns-clause-groups g c =
     let skips : List RecordName = c.args.kept.now.skips in
     let size : ℕ = c.args.kept.now.cut.size in
     let ts : List Triple = emitted request.job request.split files skips in
-    let ks : List (List ℕ) = c.in_ok-pairs.field-0.pairs in
-    let ns : List Name = names_beside (kept_records skips (named_records size files)) c.in_ok-pairs.field-0.counts.items in
-    let keys = keys_are request files skips c.job-job.result.now size ks c.job-job.ensures.same c.requires.size c.in_ok-pairs.ensures.keys in
-    let names = names_are request files skips c.job-job.result.now size c.in_ok-pairs.field-0.counts.items c.job-job.ensures.same c.requires.size c.in_ok-pairs.ensures.counts in
+    let ks : List (List ℕ) = c.in_ok-keys.field-0.keys in
+    let ns : List Name = names_beside (kept_records skips (named_records size files)) c.in_ok-keys.field-0.counts.items in
+    let keys = keys_are request files skips c.job-job.result.now size ks c.job-job.ensures.same c.requires.size c.in_ok-keys.ensures.keys in
+    let names = names_are request files skips c.job-job.result.now size c.in_ok-keys.field-0.counts.items c.job-job.ensures.same c.requires.size c.in_ok-keys.ensures.counts in
     c.in_ok-made.ensures.groups
     ∙ ap (λ m. map (groups_in (λ k. partition_by c.by.result k m) ks ns) (range_with_len 0 m)) c.parts.ensures.same
     ∙ ap (λ b. map (groups_in (λ k. partition_by b k request.parts) ks ns) (range_with_len 0 request.parts)) c.by.ensures.same

@@ -52,7 +52,7 @@ gather_one-requires-clause-few g c =
       arith,
       ap (λ (m : Source). length (emissions m.job line.file line.start line.bytes.now)) c.loop-line.invariant.mapper,
       ap length c.loop-line.invariant.keys,
-      length-append c.loop-line.emitting.pairs (flat_map f c.loop-line.left),
+      length-append c.loop-line.emitted.keys (flat_map f c.loop-line.left),
       ap length (ap (flat_map f) c.in-Some.ensures.next),
       length-append (f r) (flat_map f c.next.new.self),
       length-map (emissions job line.file line.start line.bytes.now) (λ (e : Emission). e.0),
@@ -70,15 +70,15 @@ loop-line-preserved g c =
     let files : List (List ℕ) = c.args.kept.now.cut.files in
     let job : c.loop-line.mapper.job ≡ c.args.job.now = ap (λ (m : Source). m.job) c.loop-line.invariant.mapper in
     let keys = c.in_ok-gather_one.ensures.keys
-    ∙ ap (λ j. c.loop-line.emitting.pairs ++ map (λ (e : Emission). e.0) (emissions j line.file line.start line.bytes.now)) job in
+    ∙ ap (λ j. c.loop-line.emitted.keys ++ map (λ (e : Emission). e.0) (emissions j line.file line.start line.bytes.now)) job in
     let counts = c.in_ok-gather_one.ensures.counts
-    ∙ ap (λ j. c.loop-line.emitting.counts.items ++ length (emissions j line.file line.start line.bytes.now) ∷ []) job in
+    ∙ ap (λ j. c.loop-line.emitted.counts.items ++ length (emissions j line.file line.start line.bytes.now) ∷ []) job in
     record {
       lines = All-tail (Stands files) r c.next.new.self (subst (All (Stands files)) c.in-Some.ensures.next c.loop-line.invariant.lines);
       mapper = c.gather_one.ensures.same ∙ c.loop-line.invariant.mapper;
-      keys = next_gathered f c.loop-line.emitting.pairs c.gather_one.new.emitting.pairs (f r) (flat_map f rs) c.loop-line.left c.next.new.self r
+      keys = next_gathered f c.loop-line.emitted.keys c.gather_one.new.emitted.keys (f r) (flat_map f rs) c.loop-line.left c.next.new.self r
           c.in-Some.ensures.next refl keys c.loop-line.invariant.keys;
-      counts = next_counted (pair_count c.args.job.now) c.loop-line.emitting.counts.items c.gather_one.new.emitting.counts.items (map (pair_count c.args.job.now) rs)
+      counts = next_counted (pair_count c.args.job.now) c.loop-line.emitted.counts.items c.gather_one.new.emitted.counts.items (map (pair_count c.args.job.now) rs)
           c.loop-line.left c.next.new.self r c.in-Some.ensures.next counts c.loop-line.invariant.counts;
     }
 
@@ -90,4 +90,4 @@ all_keys job skips rs left keys none so =
 
 pub returns-clause-keys : goal.returns-clause-keys
 returns-clause-keys g c =
-    all_keys c.args.job.now c.args.kept.now.skips (records_of c.args.kept.now.cut) c.loop-line.left c.loop-line.emitting.pairs c.in_default.ensures.next c.loop-line.invariant.keys
+    all_keys c.args.job.now c.args.kept.now.skips (records_of c.args.kept.now.cut) c.loop-line.left c.loop-line.emitted.keys c.in_default.ensures.next c.loop-line.invariant.keys

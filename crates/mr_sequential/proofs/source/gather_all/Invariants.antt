@@ -9,10 +9,10 @@ use Rattle.mr_sequential.proofs.source.gather_all.Given as goal
 
 abbrev pub invariant-loop-line : goal.invariant-loop-line
 invariant-loop-line g l = record {
-  keys : l.emitting.pairs ++ flat_map (record_keys l.job) l.left ≡ flat_map (record_keys l.job) (kept_records l.fn.kept.skips (records_of l.fn.kept.cut));
+  keys : l.emitted.keys ++ flat_map (record_keys l.job) l.left ≡ flat_map (record_keys l.job) (kept_records l.fn.kept.skips (records_of l.fn.kept.cut));
   lines : All (Stands l.fn.kept.cut.files) l.left;
   mapper : l.mapper ≡ record { job = l.fn.job; files = l.fn.kept.cut.files };
-  counts : l.emitting.counts.items ++ map (pair_count l.job) l.left ≡ map (pair_count l.job) (kept_records l.fn.kept.skips (records_of l.fn.kept.cut));
+  counts : l.emitted.counts.items ++ map (pair_count l.job) l.left ≡ map (pair_count l.job) (kept_records l.fn.kept.skips (records_of l.fn.kept.cut));
 }
 
 abbrev pub decreases-loop-line : goal.decreases-loop-line

@@ -4,7 +4,7 @@ use Rattle.mr_sequential.proofs.source.gather_record.Given as goal
 
 abbrev pub invariant-loop-key : goal.invariant-loop-key
 invariant-loop-key l =
-    l.gathering ++ map (λ e. e.0) l.emitter ≡ l.fn.gathering ++ map (λ e. e.0) (emissions l.fn.mapper.job l.fn.line.file l.fn.line.start l.fn.line.bytes.now)
+    l.keys ++ map (λ e. e.0) l.emitter ≡ l.fn.keys ++ map (λ e. e.0) (emissions l.fn.mapper.job l.fn.line.file l.fn.line.start l.fn.line.bytes.now)
 
 abbrev pub decreases-loop-key : goal.decreases-loop-key
 decreases-loop-key l = length l.emitter

@@ -1,8 +1,8 @@
 use Rattle.std.proofs.Common.{◌≡◌, ℕ, ◌<◌, List, length, get_or, ◌∙◌, sym, arith, Vec, Global}
 use Rattle.std.proofs.lemmas.List.{get_or_default, length-map}
 use Rattle.mr_input.specs.Files.{contents, nth_file}
-use Rattle.mr_ranks.specs.declared.rows.Row.{Row}
-use Rattle.mr_ranks.specs.Rows.{no_row}
+use Rattle.mr_group.specs.declared.rows.Row.{Row}
+use Rattle.mr_group.specs.Rows.{no_row}
 use Rattle.mr_sequential.specs.Rows.{count_line}
 use Rattle.mr_sequential.proofs.TextLemmas.{row_more, row_end}
 use Rattle.mr_sequential.proofs.texts.count_texts.Goals as goal

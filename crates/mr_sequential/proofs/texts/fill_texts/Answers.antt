@@ -2,7 +2,7 @@ use Rattle.std.proofs.Common.{◌≡◌, ℕ, ◌++◌, List, sym, ap, ◌∙◌
 use Rattle.std.proofs.lemmas.Result.{on_ok_weaker}
 use Rattle.mr_bytes.specs.declared.Name.{Name}
 use Rattle.mr_input.specs.Files.{contents, nth_file}
-use Rattle.mr_ranks.specs.declared.rows.Row.{Row}
+use Rattle.mr_group.specs.declared.rows.Row.{Row}
 use Rattle.mr_splits.specs.Cut.{records_of}
 use Rattle.mr_sequential.specs.Rows.{count_line, names_text, row_texts}
 use Rattle.mr_sequential.proofs.FillLemmas.{counted-texts}

@@ -3,12 +3,12 @@ use Rattle.std.proofs.lemmas.List.{get_or_default, length-map}
 use Rattle.mr_bytes.specs.declared.Name.{Name}
 use Rattle.mr_reduce.specs.Text.{text_of}
 use Rattle.mr_input.specs.Files.{contents, nth_file}
-use Rattle.mr_ranks.specs.declared.rows.Row.{Row}
-use Rattle.mr_ranks.specs.Rows.{no_row}
+use Rattle.mr_group.specs.declared.rows.Row.{Row}
+use Rattle.mr_group.specs.Rows.{no_row}
 use Rattle.mr_splits.specs.Cut.{records_of}
 use Rattle.mr_sequential.specs.Names.{IsOfRecord, value_under}
 use Rattle.mr_sequential.specs.Rows.{names_text, row_names, row_start}
-use Rattle.mr_ranks.proofs.BucketLemmas.{before-zero}
+use Rattle.mr_group.proofs.BucketLemmas.{before-zero}
 use Rattle.mr_sequential.proofs.FillLemmas.{row-next, row-within}
 use Rattle.mr_sequential.proofs.TextLemmas.{row_more, row_end}
 use Rattle.mr_sequential.proofs.texts.name_texts.Goals as goal

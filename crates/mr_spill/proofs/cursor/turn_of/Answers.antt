@@ -4,7 +4,7 @@ use Rattle.mr_bytes.specs.Order.{name_order}
 use Rattle.mr_spill.specs.declared.cursor.RegionPair.{RegionPair}
 use Rattle.mr_spill.specs.Cursor.{IsBehind, IsKeyOf}
 use Rattle.mr_spill.proofs.cursor.turn_of.Goals as goal
-use Rattle.mr_ranks.proofs.OrderLemmas.{key_tie}
+use Rattle.mr_group.proofs.OrderLemmas.{key_tie}
 
 pub returns-in-Less-compare_names : goal.returns-in-Less-compare_names
 returns-in-Less-compare_names c =

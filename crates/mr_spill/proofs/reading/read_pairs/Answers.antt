@@ -6,7 +6,7 @@ use Rattle.mr_bytes.specs.Pairs.{Triple, pair_order}
 use Rattle.mr_spill.specs.Spelling.{PairFits, pair_bytes}
 use Rattle.mr_spill.proofs.ReadingLemmas.{flat-next, rises-next, spelled-end, spelled-next}
 use Rattle.mr_spill.proofs.reading.read_pairs.Goals as goal
-use Rattle.mr_ranks.proofs.ListLemmas.{All-more}
+use Rattle.mr_group.proofs.ListLemmas.{All-more}
 
 pub loop-preserved : goal.loop-preserved
 loop-preserved c =

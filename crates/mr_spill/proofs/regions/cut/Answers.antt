@@ -3,8 +3,8 @@ use Rattle.std.specs.List.{range_with_len}
 use Rattle.mr_bytes.specs.Lists.{Rises}
 use Rattle.mr_bytes.specs.Pairs.{Triple}
 use Rattle.mr_partition.specs.Hosts.{partition_by}
-use Rattle.mr_ranks.specs.declared.rows.Row.{Row}
-use Rattle.mr_ranks.specs.Rows.{row_cmp}
+use Rattle.mr_group.specs.declared.rows.Row.{Row}
+use Rattle.mr_group.specs.Rows.{row_cmp}
 use Rattle.mr_spill.specs.Rows.{pairs_in}
 use Rattle.mr_spill.proofs.RowLemmas.{listed-inside, listed-region}
 use Rattle.mr_spill.proofs.regions.cut.Goals as goal

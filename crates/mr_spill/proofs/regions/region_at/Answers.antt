@@ -1,13 +1,13 @@
 use Rattle.std.proofs.Common.{◌≡◌, ℕ, ◌+◌, ◌<◌, ◌++◌, List, length, drop, ap, sym, ◌∙◌, subst, arith}
 use Rattle.std.proofs.lemmas.List.{append_assoc}
 use Rattle.mr_bytes.specs.Pairs.{Triple}
-use Rattle.mr_ranks.specs.declared.rows.Row.{Row}
+use Rattle.mr_group.specs.declared.rows.Row.{Row}
 use Rattle.mr_spill.specs.Rows.{front, row_pairs}
 use Rattle.mr_spill.specs.Entries.{Entry}
 use Rattle.mr_spill.specs.Table.{pairs_under}
 use Rattle.mr_spill.proofs.RowLemmas.{passed, taken}
 use Rattle.mr_spill.proofs.regions.region_at.Goals as goal
-use Rattle.mr_ranks.proofs.ListLemmas.{head-of_drop}
+use Rattle.mr_group.proofs.ListLemmas.{head-of_drop}
 
 pub put_all-requires : goal.put_all-requires
 put_all-requires c =

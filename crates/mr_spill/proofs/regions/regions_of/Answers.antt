@@ -3,9 +3,9 @@ use Rattle.std.proofs.lemmas.List.FromFn.{map-range_with_len_more}
 use Rattle.std.specs.List.{range_with_len}
 use Rattle.mr_bytes.specs.Lists.{Rises}
 use Rattle.mr_bytes.specs.Pairs.{Triple}
-use Rattle.mr_ranks.specs.declared.rows.Row.{Row}
+use Rattle.mr_group.specs.declared.rows.Row.{Row}
 use Rattle.mr_spill.specs.Rows.{behind, pairs_in, row_pairs, rows_in}
-use Rattle.mr_ranks.specs.Rows.{row_cmp}
+use Rattle.mr_group.specs.Rows.{row_cmp}
 use Rattle.mr_spill.specs.Entries.{Entry}
 use Rattle.mr_spill.proofs.RowLemmas.{AreFrom, behind-from, behind-in, behind-rises, front-is}
 use Rattle.mr_spill.proofs.regions.regions_of.Goals as goal

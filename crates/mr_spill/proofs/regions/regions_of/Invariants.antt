@@ -2,7 +2,7 @@ use Rattle.std.proofs.Common.{◌≡◌, ◌≤◌, ℕ, drop, length, map}
 use Rattle.std.specs.List.{range_with_len}
 use Rattle.mr_bytes.specs.Lists.{Rises}
 use Rattle.mr_spill.specs.Rows.{pairs_in, rows_in}
-use Rattle.mr_ranks.specs.Rows.{row_cmp}
+use Rattle.mr_group.specs.Rows.{row_cmp}
 use Rattle.mr_spill.proofs.RowLemmas.{AreFrom}
 use Rattle.mr_spill.proofs.regions.regions_of.Given as goal
 

@@ -1,7 +1,7 @@
 use Rattle.std.proofs.Common.{◌+◌, ◌<◌, List, length, drop, subst}
-use Rattle.mr_ranks.specs.declared.rows.Row.{Row}
+use Rattle.mr_group.specs.declared.rows.Row.{Row}
 use Rattle.mr_spill.proofs.regions.room_at.Goals as goal
-use Rattle.mr_ranks.proofs.ListLemmas.{head-of_drop}
+use Rattle.mr_group.proofs.ListLemmas.{head-of_drop}
 
 pub count-requires : goal.count-requires
 count-requires c =

@@ -1,8 +1,8 @@
 use Rattle.std.proofs.Common.{◌≡◌, ◌<◌, ℕ, List, All, length, arith, ap, sym, subst, ◌∙◌}
 use Rattle.mr_partition.specs.Hosts.{partition_by}
-use Rattle.mr_ranks.specs.declared.rows.Row.{Row}
-use Rattle.mr_ranks.specs.Rows.{AreRows}
-use Rattle.mr_ranks.proofs.RankLemmas.{rank_count}
+use Rattle.mr_group.specs.declared.rows.Row.{Row}
+use Rattle.mr_group.specs.Rows.{AreRows}
+use Rattle.mr_group.proofs.RankLemmas.{rank_count}
 use Rattle.mr_spill.proofs.CutLemmas.{ranks-of, rows-at, table-of}
 use Rattle.mr_spill.proofs.regions.rows_with_lists.Goals as goal
 

@@ -2,8 +2,8 @@ use Rattle.std.proofs.Common.{◌≡◌, ◌<◌, ℕ, List, ap, sym, ◌∙◌,
 use Rattle.mr_bytes.specs.Lists.{Rises}
 use Rattle.mr_bytes.specs.Pairs.{Triple}
 use Rattle.mr_partition.specs.Hosts.{partition_by}
-use Rattle.mr_ranks.specs.declared.rows.Row.{Row}
-use Rattle.mr_ranks.specs.Rows.{row_cmp}
+use Rattle.mr_group.specs.declared.rows.Row.{Row}
+use Rattle.mr_group.specs.Rows.{row_cmp}
 use Rattle.mr_spill.specs.Regions.{region}
 use Rattle.mr_spill.specs.Rows.{pairs_in}
 use Rattle.mr_spill.specs.Sealed.{AreFor, IsText}

@@ -3,7 +3,7 @@ use Rattle.std.proofs.lemmas.Grind.{flat_map-append}
 use Rattle.std.proofs.lemmas.List.{append_assoc}
 use Rattle.std.specs.List.{AllByRecursion, flat_map}
 use Rattle.mr_bytes.specs.Pairs.{Triple}
-use Rattle.mr_ranks.specs.declared.rows.Row.{Row}
+use Rattle.mr_group.specs.declared.rows.Row.{Row}
 use Rattle.mr_spill.specs.Rows.{front, row_pairs}
 use Rattle.mr_spill.specs.Entries.{Entry}
 use Rattle.mr_spill.specs.Spelling.{PairFits, pair_bytes}
@@ -11,7 +11,7 @@ use Rattle.mr_spill.specs.Table.{pairs_under}
 use Rattle.mr_spill.proofs.RowLemmas.{passed, taken}
 use Rattle.mr_spill.proofs.SealedLemmas.{all-append}
 use Rattle.mr_spill.proofs.sealed.spell_rows.Goals as goal
-use Rattle.mr_ranks.proofs.ListLemmas.{head-of_drop}
+use Rattle.mr_group.proofs.ListLemmas.{head-of_drop}
 
 pub spell_under-requires : goal.spell_under-requires
 spell_under-requires c =

@@ -2,8 +2,8 @@ use Rattle.std.proofs.Common.{◌≡◌, ℕ, ◌+◌, List, [], ◌∷◌, drop
 use Rattle.std.proofs.lemmas.List.{map-append}
 use Rattle.mr_bytes.specs.Lists.{Rises}
 use Rattle.mr_bytes.specs.Pairs.{Triple}
-use Rattle.mr_ranks.specs.declared.rows.Row.{Row}
-use Rattle.mr_ranks.specs.Rows.{row_cmp}
+use Rattle.mr_group.specs.declared.rows.Row.{Row}
+use Rattle.mr_group.specs.Rows.{row_cmp}
 use Rattle.mr_spill.specs.Entries.{Entry}
 use Rattle.mr_spill.specs.Rows.{behind, front, pairs_in, row_pairs, rows_in}
 use Rattle.mr_spill.specs.Sealed.{AreFor, IsText}

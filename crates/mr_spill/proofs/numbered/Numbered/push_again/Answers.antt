@@ -3,7 +3,7 @@ use Rattle.std.proofs.lemmas.List.{get_or_default}
 use Rattle.mr_bytes.specs.Pairs.{Triple}
 use Rattle.mr_spill.specs.Column.{no_pair, nth_pair}
 use Rattle.mr_spill.specs.Entries.{Entry}
-use Rattle.mr_keys.specs.Keys.{key_at}
+use Rattle.mr_group.specs.Interner.{key_at}
 use Rattle.mr_spill.specs.Table.{numbered}
 use Rattle.mr_spill.proofs.TableLemmas.{length-numbered, numbered-at, numbered-push}
 use Rattle.mr_spill.proofs.numbered.Numbered.push_again.Goals as goal

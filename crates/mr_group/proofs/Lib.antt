@@ -1,0 +1,12 @@
+pub mod TextLemmas
+pub mod KeyLemmas
+pub mod BucketLemmas
+pub mod FrontLemmas
+pub mod FrontOrder
+pub mod ListLemmas
+pub mod OrderLemmas
+pub mod RankLemmas
+pub mod RowLemmas
+pub mod UniteLemmas
+pub mod SlotLemmas
+pub mod ColumnLemmas

@@ -1,0 +1,14 @@
+use Rattle.std.proofs.Common.{◌∙◌, arith}
+use Rattle.mr_group.proofs.KeyLemmas.{both-ends}
+use Rattle.mr_group.proofs.print.short_print.Goals as goal
+
+pub returns : goal.returns
+returns c =
+    let first = c.in_ok-first.ensures.cases in
+    let last = c.in_ok-last.ensures.cases in
+    record {
+      long = λ enough few. absurd (omega (arith, enough, c.requires));
+      short = λ enough few.
+          both-ends 4 c.args.key.now _ _ enough (omega (arith, few)) (c.number_of_four.ensures ∙ first.same) (c.number_of_four-2.ensures ∙ last.1.same);
+      least = λ few. absurd (omega (arith, few, last.0));
+    }

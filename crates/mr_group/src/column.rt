@@ -1,0 +1,67 @@
+//! The keys of pairs in their order, each key stored once: four bytes a pair.
+ghost use Rattle.std.specs.Prelude.{◌≡◌, ◌<◌, ◌^◌, [], ◌∷◌, ◌++◌, OnOk, OnErr, length};
+ghost use Rattle.mr_group.specs.Column.{AreNumbers, keyed};
+
+use crate::interner::Interner;
+use std::alloc::{AllocError, Global};
+use std::marker::Model;
+
+/// The number of each pair's key. Some keys may have more than one number. In contracts: the list
+/// of the pairs' keys.
+#[derive(Drop)]
+pub struct KeyColumn {
+    keys: Interner,
+    numbers: Vec<u32>,
+}
+
+impl Model for KeyColumn {
+    ghost use Rattle.std.specs.Prelude.{ℕ, List};
+    ghost use Rattle.mr_group.specs.Column.{AreNumbers, keyed};
+
+    ghost Value = { List (List ℕ) };
+
+    ghost view = { λ c. keyed c.keys c.numbers.items };
+
+    ghost invariant = { λ c. AreNumbers c.keys c.numbers.items };
+}
+
+impl KeyColumn {
+    /// No pairs. Takes no memory.
+    pub fn new(alloc: Global) -> KeyColumn
+        ensures { result ≡ [] }
+    {
+        KeyColumn {
+            keys: Interner::new(alloc),
+            numbers: Vec::new(alloc),
+        }
+    }
+
+    /// How many pairs there are.
+    pub fn len(&self) -> usize
+        ensures { result ≡ length self.now }
+    {
+        self.numbers.len()
+    }
+
+    /// Appends the key of a pair. Fails only for want of memory, and then changes nothing.
+    #[inline(always)]
+    pub fn push(&mut self, alloc: Global, key: &[u8]) -> Result<(), AllocError>
+        requires { length self.old < 2 ^ 32 }
+        ensures ok { OnOk result (self.new ≡ self.old ++ key.now ∷ []) }
+        ensures err { OnErr result (self.new ≡ self.old) }
+    {
+        self.numbers.reserve(1)?;
+        let number = self.keys.number_of(alloc, key)?;
+        self.numbers.push_reserved(number);
+        Ok(())
+    }
+
+    /// The distinct keys, and the number of each pair's key.
+    pub fn into_parts(self) -> (Interner, Vec<u32>)
+        ensures keyed { keyed result.0 result.1.items ≡ self }
+        ensures numbers { AreNumbers result.0 result.1.items }
+    {
+        let KeyColumn { keys, numbers } = self;
+        (keys, numbers)
+    }
+}

@@ -1,3 +1,0 @@
-pub mod Front
-pub mod Keys
-pub mod Waiting

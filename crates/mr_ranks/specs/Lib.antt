@@ -1,3 +1,0 @@
-pub mod Buckets
-pub mod Front
-pub mod Rows
