@@ -14,3 +14,4 @@ pub mod Chunks
 pub mod Versions
 pub mod Spelled
 pub mod Groups
+pub mod Packed

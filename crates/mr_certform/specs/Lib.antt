@@ -7,6 +7,7 @@ pub mod Grammar
 pub mod Walking
 pub mod Rows
 pub mod Streaming
+pub mod Packed
 pub mod Flat
 pub mod Pieces
 pub mod Sinks

@@ -9,7 +9,8 @@ ghost use Rattle.mr_certform.specs.Flat.{told, told_first, nothing_told, total, 
 ghost use Rattle.mr_certform.specs.Value.{names_of};
 
 use crate::grammar_state::Item;
-use mr_bytes::{Name, RecordName};
+use crate::names::{NameColumn, Names};
+use mr_bytes::RecordName;
 use std::alloc::{AllocError, Global};
 use std::marker::Model;
 
@@ -30,7 +31,7 @@ pub struct Header {
 pub struct FlatGroups {
     pub group_counts: Vec<u32>,
     pub entry_counts: Vec<u32>,
-    pub names: Vec<Name>,
+    pub names: NameColumn,
 }
 
 /// The values of a certificate's items, in order.
@@ -56,7 +57,7 @@ impl Model for CertificateColumns {
       skips = a.header.skips.items;
       group_counts = a.groups.group_counts.items;
       entry_counts = a.groups.entry_counts.items;
-      names = a.groups.names.items;
+      names = a.groups.names;
     } };
 }
 
@@ -67,7 +68,7 @@ impl CertificateColumns {
         let groups = FlatGroups {
             group_counts: Vec::new(alloc),
             entry_counts: Vec::new(alloc),
-            names: Vec::new(alloc),
+            names: NameColumn::plain(alloc, Vec::new(alloc)),
         };
         CertificateColumns {
             header,
@@ -135,7 +136,7 @@ impl Certificate {
         requires files { length header.lengths.items ≤ 1024 }
         requires skips { length header.skips.items < 2 ^ 32 }
         requires parts { (1 ≤ length groups.group_counts.items) × (length groups.group_counts.items ≤ 1024) }
-        requires counted { AreCounted groups.group_counts.items groups.entry_counts.items groups.names.items }
+        requires counted { AreCounted groups.group_counts.items groups.entry_counts.items groups.names }
         ensures { result ≡ record {
           job = header.job;
           flags = header.flags;
@@ -144,7 +145,7 @@ impl Certificate {
           split_size = header.split_size;
           lengths = header.lengths.items;
           skips = header.skips.items;
-          groups = chunks groups.group_counts.items (chunks groups.entry_counts.items groups.names.items);
+          groups = chunks groups.group_counts.items (chunks groups.entry_counts.items groups.names);
         } }
     {
         let parts = groups.group_counts.len() as u32;
@@ -219,10 +220,10 @@ impl Certificate {
     }
 
     /// The names of all entries, in order.
-    pub fn names(&self) -> &[Name]
-        ensures { result.now ≡ names_of self.now }
+    pub fn names(&self) -> Names<'_>
+        ensures { result ≡ names_of self.now }
     {
-        self.flat.groups.names.as_slice()
+        self.flat.groups.names.names()
     }
 
     /// The groups of each partition, to be read in order.
@@ -232,7 +233,7 @@ impl Certificate {
         PartitionIter {
             group_counts: &self.flat.groups.group_counts,
             entry_counts: &self.flat.groups.entry_counts,
-            names: &self.flat.groups.names,
+            names: self.flat.groups.names.names(),
         }
     }
 }
@@ -242,7 +243,7 @@ impl Certificate {
 pub struct PartitionIter<'a> {
     group_counts: &'a [u32],
     entry_counts: &'a [u32],
-    names: &'a [Name],
+    names: Names<'a>,
 }
 
 impl<'a> Model for PartitionIter<'a> {
@@ -252,11 +253,11 @@ impl<'a> Model for PartitionIter<'a> {
 
     ghost Value = { List (List (List Name)) };
 
-    ghost view = { λ a. chunks a.group_counts.now (chunks a.entry_counts.now a.names.now) };
+    ghost view = { λ a. chunks a.group_counts.now (chunks a.entry_counts.now a.names) };
 
     ghost invariant = { λ a. record {
       groups : total a.group_counts.now ≤ length a.entry_counts.now;
-      entries : total a.entry_counts.now ≤ length a.names.now;
+      entries : total a.entry_counts.now ≤ length a.names;
     } };
 }
 
@@ -264,7 +265,7 @@ impl<'a> Model for PartitionIter<'a> {
 #[derive(Drop)]
 pub struct GroupIter<'a> {
     entry_counts: &'a [u32],
-    names: &'a [Name],
+    names: Names<'a>,
 }
 
 impl<'a> Model for GroupIter<'a> {
@@ -274,15 +275,15 @@ impl<'a> Model for GroupIter<'a> {
 
     ghost Value = { List (List Name) };
 
-    ghost view = { λ a. chunks a.entry_counts.now a.names.now };
+    ghost view = { λ a. chunks a.entry_counts.now a.names };
 
-    ghost invariant = { λ a. total a.entry_counts.now ≤ length a.names.now };
+    ghost invariant = { λ a. total a.entry_counts.now ≤ length a.names };
 }
 
 impl<'a> GroupIter<'a> {
     /// The names of the next group.
-    pub fn next_group(&mut self) -> Option<&'a [Name]>
-        ensures { MatchOption result ((self.old ≡ []) × (self.new ≡ [])) (λ g. self.old ≡ g.now ∷ self.new) }
+    pub fn next_group(&mut self) -> Option<Names<'a>>
+        ensures { MatchOption result ((self.old ≡ []) × (self.new ≡ [])) (λ g. self.old ≡ g ∷ self.new) }
     {
         let (count, counts) = self.entry_counts.split_first()?;
         let (group, names) = self.names.split_at(*count as usize);

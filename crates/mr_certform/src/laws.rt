@@ -5,6 +5,7 @@ ghost use Rattle.mr_certform.specs.Laws.{StandingIsSpelled, SpelledStands, Spell
 ghost use Rattle.mr_certform.specs.Laws.{SpellingIsRead, EndedIsSpelled, OneCertificate};
 ghost use Rattle.mr_certform.specs.Laws.{SpelledByParts, VersionIsTold, ItemsStand};
 ghost use Rattle.mr_certform.specs.Laws.{ItemsAreLongest, CutByCounts, SpelledSoFarIsSpelled};
+ghost use Rattle.mr_certform.specs.Packed.{PackedIsNamed};
 ghost use Rattle.mr_certform.specs.Pieces.{versioned_bytes};
 ghost use Rattle.mr_certform.specs.Value.{SpellsIn};
 
@@ -43,6 +44,11 @@ pub fn chunks_law()
     ensures groups { CutByCounts (List Name) }
 {}
 
+/// A packed name is told again, if its record is before the first one of the next split.
+pub fn packed_law()
+    ensures { PackedIsNamed }
+{}
+
 /// Bytes that encode a certificate up to its last partition encode all of it, in the same version.
 pub fn pieces_law()
     ensures { SpelledSoFarIsSpelled }
@@ -54,6 +60,6 @@ pub fn text_law(spelled: &VersionedCertificate<'_>)
 {
     let flat = spelled.flat();
     numbers_fit(flat);
-    names_fit(&flat.groups.names);
+    names_fit(flat.groups.names.names());
     skips_fit(&flat.header.skips);
 }

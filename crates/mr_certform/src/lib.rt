@@ -7,8 +7,8 @@
 //!     a header, then partitions       -> write_header, write_partition -> a list of bytes
 //!
 //! Only the magic and the encoding of names depend on the version, so items and states have none.
-//! Cost: a walk takes no memory but a reader's buffer; a `Certificate` takes 12 bytes a name and 4
-//! a group.
+//! Cost: a walk takes no memory but a reader's buffer; a `Certificate` takes 8 or 12 bytes a name
+//! (`names.rt`) and 4 a group.
 //! Source: docs/FORMATS.md, "The certificate".
 #![tactic(auto)]
 
@@ -16,6 +16,7 @@ mod certificate;
 mod front;
 mod grammar_state;
 mod laws;
+mod names;
 mod piecewise;
 mod reading;
 mod short;
@@ -27,7 +28,10 @@ mod writing;
 
 pub use crate::certificate::{Certificate, FlatGroups, GroupIter, Header, PartitionIter};
 pub use crate::grammar_state::{GrammarState, Item, Malformed};
-pub use crate::laws::{certificate_law, chunks_law, item_law, items_law, pieces_law, text_law};
+pub use crate::laws::{
+    certificate_law, chunks_law, item_law, items_law, packed_law, pieces_law, text_law,
+};
+pub use crate::names::{NameColumn, Names};
 pub use crate::piecewise::{partition_size_hint, write_header, write_partition};
 pub use crate::reading::{ReadFault, read};
 pub use crate::stream::{StreamFault, StreamWalker};

@@ -15,11 +15,11 @@ ghost use Rattle.mr_certform.specs.Pieces.{SpellsSoFar};
 ghost use Rattle.mr_certform.specs.Value.{Contents, CanSpell};
 
 use crate::certificate::{CertificateColumns, Header};
+use crate::names::Names;
 use crate::version::Version;
 use crate::writing::{
     counts_fit, numbers_fit, put_groups, put_input, put_job, put_left_out, put_number, size_of,
 };
-use mr_bytes::Name;
 use std::alloc::{AllocError, Global};
 
 /// Encodes what precedes the `parts` partitions of a certificate, with room for `room` more bytes.
@@ -72,15 +72,15 @@ pub fn write_partition(
     out: &mut Vec<u8>,
     version: Version,
     counts: &[u32],
-    names: &[Name],
+    names: Names<'_>,
 ) -> Result<(), AllocError>
     requires some { AllByRecursion (λ n. 1 ≤ n) counts.now }
     requires few { length counts.now < 2 ^ 32 }
-    requires entries { total counts.now ≡ length names.now }
-    requires can { CanSpell version (chunks counts.now names.now) }
+    requires entries { total counts.now ≡ length names }
+    requires can { CanSpell version (chunks counts.now names) }
     ensures { OnOk result ((c : Contents) → SpellsSoFar version out.old.items c
         → SpellsSoFar version out.new.items
-        (record c { groups = c.groups ++ chunks counts.now names.now ∷ [] })) }
+        (record c { groups = c.groups ++ chunks counts.now names.entry ∷ [] })) }
 {
     counts_fit(counts);
     put_number(out, counts.len() as u32)?;

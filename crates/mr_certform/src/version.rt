@@ -17,6 +17,7 @@ ghost use Rattle.mr_certform.specs.Spelling.{magic, version_of};
 ghost use Rattle.mr_certform.specs.Value.{CanRow, CanSpell};
 
 use crate::certificate::{Certificate, CertificateColumns};
+use crate::names::Names;
 use crate::short::is_at_least;
 use mr_bytes::Name;
 use std::marker::Model;
@@ -43,9 +44,9 @@ impl Version {
 
     /// Whether the version can encode the groups that `counts` cuts from the names. Version 2 can't
     /// if a name is less than the one before it in its group.
-    pub fn can_spell(self, counts: &[u32], names: &[Name]) -> bool
-        requires { total counts.now ≤ length names.now }
-        ensures { IsTrue result ↔ CanSpell self (chunks counts.now names.now) }
+    pub fn can_spell(self, counts: &[u32], names: Names<'_>) -> bool
+        requires { total counts.now ≤ length names }
+        ensures { IsTrue result ↔ CanSpell self (chunks counts.now names.entry) }
     {
         match self {
             Version::V1 => true,
@@ -110,7 +111,7 @@ impl Certificate {
         ensures { MatchOption result (AllByRecursion (CanSpell version) self.now.groups → ⊥)
             (λ s. s ≡ record { version = version; certificate = self.now }) }
     {
-        if !version.can_spell(&self.flat.groups.entry_counts, &self.flat.groups.names) {
+        if !version.can_spell(&self.flat.groups.entry_counts, self.names()) {
             return None;
         }
         Some(VersionedCertificate {
@@ -120,9 +121,9 @@ impl Certificate {
     }
 }
 
-fn never_fall(counts: &[u32], names: &[Name]) -> bool
-    requires { total counts.now ≤ length names.now }
-    ensures { IsTrue result ↔ CanSpell Version.V2 (chunks counts.now names.now) }
+fn never_fall(counts: &[u32], names: Names<'_>) -> bool
+    requires { total counts.now ≤ length names }
+    ensures { IsTrue result ↔ CanSpell Version.V2 (chunks counts.now names.entry) }
 {
     let mut rest = names;
     for count in counts {
@@ -135,19 +136,20 @@ fn never_fall(counts: &[u32], names: &[Name]) -> bool
     true
 }
 
-fn never_falls(names: &[Name]) -> bool
-    ensures { IsTrue result ↔ CanRow Version.V2 first_name names.now }
+fn never_falls(names: Names<'_>) -> bool
+    ensures { IsTrue result ↔ CanRow Version.V2 first_name names.entry }
 {
+    let mut rest = names;
     let mut before = Name {
         split: 0,
         rec: 0,
         place: 0,
     };
-    for name in names {
-        if !is_at_least(before, *name) {
+    while let Some(name) = rest.next() {
+        if !is_at_least(before, name) {
             return false;
         }
-        before = *name;
+        before = name;
     }
     true
 }

@@ -13,6 +13,7 @@ ghost use Rattle.mr_certform.specs.Pieces.{names_bytes, group_bytes, part_bytes,
 ghost use Rattle.mr_certform.specs.Pieces.{all_bytes, versioned_bytes};
 
 use crate::certificate::{Certificate, CertificateColumns};
+use crate::names::Names;
 use crate::short::short_name;
 use crate::version::{Version, VersionedCertificate};
 use crate::write_buffer::{Sink, WriteBuffer};
@@ -76,19 +77,20 @@ fn put_name<O: Sink>(
     }
 }
 
-fn put_names<O: Sink>(out: &mut O, version: Version, names: &[Name]) -> Result<(), O::Fault>
-    requires { CanRow version first_name names.now }
-    ensures { OnOk result (O.takes out.old out.new (names_bytes version first_name names.now)
-        × AllByRecursion NameFits names.now) }
+fn put_names<O: Sink>(out: &mut O, version: Version, names: Names<'_>) -> Result<(), O::Fault>
+    requires { CanRow version first_name names }
+    ensures { OnOk result (O.takes out.old out.new (names_bytes version first_name names.entry)
+        × AllByRecursion NameFits names.entry) }
 {
+    let mut rest = names;
     let mut before = Name {
         split: 0,
         rec: 0,
         place: 0,
     };
-    for name in names {
-        put_name(out, version, before, *name)?;
-        before = *name;
+    while let Some(name) = rest.next() {
+        put_name(out, version, before, name)?;
+        before = name;
     }
     Ok(())
 }
@@ -98,14 +100,14 @@ pub(crate) fn put_groups<'a, O: Sink>(
     out: &mut O,
     version: Version,
     counts: &[u32],
-    names: &'a [Name],
-) -> Result<&'a [Name], O::Fault>
-    requires room { total counts.now ≤ length names.now }
-    requires can { CanSpell version (chunks counts.now names.now) }
+    names: Names<'a>,
+) -> Result<Names<'a>, O::Fault>
+    requires room { total counts.now ≤ length names }
+    requires can { CanSpell version (chunks counts.now names) }
     ensures { IfOk result (λ rest. O.takes out.old out.new
-        (flat_map (group_bytes version) (chunks counts.now names.entry.now))
-        × (rest.now ≡ drop (total counts.now) names.entry.now)
-        × AllByRecursion (AllByRecursion NameFits) (chunks counts.now names.entry.now)) }
+        (flat_map (group_bytes version) (chunks counts.now names.entry))
+        × (rest ≡ drop (total counts.now) names.entry)
+        × AllByRecursion (AllByRecursion NameFits) (chunks counts.now names.entry)) }
 {
     let mut rest = names;
     for count in counts {
@@ -122,14 +124,14 @@ fn put_parts<O: Sink>(
     version: Version,
     group_counts: &[u32],
     entry_counts: &[u32],
-    names: &[Name],
+    names: Names<'_>,
 ) -> Result<(), O::Fault>
     requires groups { total group_counts.now ≡ length entry_counts.now }
-    requires room { total entry_counts.now ≤ length names.now }
-    requires can { CanSpell version (chunks entry_counts.now names.now) }
+    requires room { total entry_counts.now ≤ length names }
+    requires can { CanSpell version (chunks entry_counts.now names) }
     ensures { OnOk result (O.takes out.old out.new (flat_map (part_bytes version)
-        (chunks group_counts.now (chunks entry_counts.now names.now)))
-        × AllByRecursion (AllByRecursion NameFits) (chunks entry_counts.now names.now)) }
+        (chunks group_counts.now (chunks entry_counts.now names.entry)))
+        × AllByRecursion (AllByRecursion NameFits) (chunks entry_counts.now names.entry)) }
 {
     let mut counts = entry_counts;
     let mut rest = names;
@@ -214,7 +216,7 @@ pub(crate) fn put_values<O: Sink>(
         version,
         &flat.groups.group_counts,
         &flat.groups.entry_counts,
-        &flat.groups.names,
+        flat.groups.names.names(),
     )
 }
 
@@ -264,11 +266,12 @@ fn skip_fits(skip: RecordName)
     let _rec = skip.rec;
 }
 
-pub(crate) fn names_fit(names: &[Name])
-    ensures { AllByRecursion NameFits names.now }
+pub(crate) fn names_fit(names: Names<'_>)
+    ensures { AllByRecursion NameFits names.entry }
 {
-    for name in names {
-        name_fits(*name);
+    let mut rest = names;
+    while let Some(name) = rest.next() {
+        name_fits(name);
     }
 }
 

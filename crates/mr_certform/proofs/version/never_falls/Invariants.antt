@@ -1,4 +1,3 @@
-use Rattle.std.proofs.Common.{drop}
 use Rattle.mr_certform.specs.Places.{first_name}
 use Rattle.mr_certform.specs.declared.version.Version.TheVariants.{V2}
 use Rattle.mr_certform.specs.Value.{CanRow}
@@ -6,6 +5,6 @@ use Rattle.mr_certform.proofs.version.never_falls.Given as goal
 
 abbrev pub invariant-loop-name : goal.invariant-loop-name
 invariant-loop-name l = record {
-  so_far : CanRow V2 l.before (drop l.name-index l.names) → CanRow V2 first_name l.names;
-  behind : CanRow V2 first_name l.names → CanRow V2 l.before (drop l.name-index l.names);
+  so_far : CanRow V2 l.before l.rest → CanRow V2 first_name l.names;
+  behind : CanRow V2 first_name l.names → CanRow V2 l.before l.rest;
 }

@@ -1,7 +1,6 @@
-use Rattle.std.proofs.Common.{drop}
 use Rattle.std.specs.List.{AllByRecursion}
 use Rattle.mr_certform.specs.Value.{NameFits}
 use Rattle.mr_certform.proofs.writing.names_fit.Given as goal
 
 abbrev pub invariant-loop-name : goal.invariant-loop-name
-invariant-loop-name l = AllByRecursion NameFits (drop l.name-index l.names) → AllByRecursion NameFits l.names
+invariant-loop-name l = AllByRecursion NameFits l.rest → AllByRecursion NameFits l.names

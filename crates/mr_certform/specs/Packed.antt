@@ -1,0 +1,41 @@
+-- A name in eight bytes: its record's number over all splits in the upper four, its place in the lower four.
+use Rattle.std.specs.Prelude.{◌≡◌, ℕ, ◌+◌, ◌-◌, ◌*◌, ◌/◌, ◌%◌, ◌^◌, ◌<◌, ◌≤◌, List, ◌++◌, length, map, nat_le, slice_index_or}
+use Rattle.std.specs.List.{prefix_len}
+use Rattle.std.specs.List.Sorted.{IsNonDecreasing}
+use Rattle.mr_bytes.specs.declared.Name.{Name}
+use Rattle.mr_certform.specs.declared.names.Span.{Span}
+
+-- the first record of each split, counted over all splits; a split may have none
+pub record AreFirsts (firsts : List ℕ) : Type 0 where
+  pub rise : IsNonDecreasing firsts
+  pub few : length firsts ≤ 2 ^ 32
+
+-- the last split that begins at or before the record; split 0 if none does
+unfoldable pub split_under : List ℕ → ℕ → ℕ
+split_under firsts r = prefix_len (λ first. nat_le first r) firsts - 1
+
+-- the first record of a split
+abbrev pub first_under : List ℕ → ℕ → ℕ
+first_under firsts s = slice_index_or firsts s 0
+
+-- the name that eight bytes stand for: its record is counted from the first one of its split
+unfoldable pub name_under : List ℕ → ℕ → Name
+name_under firsts p = record {
+  split = split_under firsts (p / 2 ^ 32);
+  rec = p / 2 ^ 32 - first_under firsts (split_under firsts (p / 2 ^ 32));
+  place = p % 2 ^ 32;
+}
+
+-- packed names, and behind them names as they are
+abbrev pub names_held : List ℕ → List ℕ → List Name → List Name
+names_held firsts packed plain = map (name_under firsts) packed ++ plain
+
+-- all records of the span are of its split
+abbrev pub Covers : List ℕ → Span → Type 0
+Covers firsts span = (r : ℕ) → span.first ≤ r → r < span.end → (split_under firsts r ≡ span.split) × (first_under firsts span.split ≡ span.first)
+
+-- a name that is packed is told again, where its record is before the first one of the next split
+abbrev pub PackedIsNamed : Type 0
+PackedIsNamed = (firsts : List ℕ) (s rec place : ℕ) → IsNonDecreasing firsts → s < length firsts → place < 2 ^ 32
+    → (s + 1 < length firsts → first_under firsts s + rec < first_under firsts (s + 1))
+    → name_under firsts (2 ^ 32 * (first_under firsts s + rec) + place) ≡ record { split = s; rec = rec; place = place }
