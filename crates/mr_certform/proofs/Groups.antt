@@ -1,12 +1,12 @@
 -- The groups of a certificate, joined and read one by one.
-use Rattle.std.proofs.Common.{◌≡◌, ℕ, zero, suc, ◌+◌, ◌<◌, ◌≤◌, List, [], ◌∷◌, ◌++◌, length, take, drop, refl, ap, sym, ◌∙◌, arith, length-append}
-use Rattle.std.proofs.lemmas.List.{length-take, length-drop, take_all, take-append-le, drop-append-le, drop-drop, take-append-drop}
+use Rattle.std.proofs.Common.{◌≡◌, ℕ, zero, suc, ◌+◌, ◌≤◌, List, [], ◌∷◌, ◌++◌, length, take, drop, refl, ap, sym, ◌∙◌, arith}
+use Rattle.std.proofs.lemmas.List.{length-take, length-drop, take_all, take-append-le, drop-append-le, take-append-drop}
 use Rattle.std.proofs.lemmas.List.Concat.{flat_map-append}
 use Rattle.std.specs.List.{flat_map}
 use Rattle.mr_certform.specs.Value.{names_of}
 use Rattle.mr_bytes.specs.declared.Name.{Name}
 use Rattle.mr_certform.specs.Flat.{Told, total, chunks, contents_of, IsWhole}
-use Rattle.mr_certform.proofs.Pieces.{length-chunks, All-append, chunks_take, chunks_drop}
+use Rattle.mr_certform.proofs.Pieces.{length-chunks, chunks_take, chunks_drop}
 
 -- what is behind the pieces does not bear on them
 chunks_front : {X : Type 0} (gs : List ℕ) (xs ys : List X) → total gs ≤ length xs → chunks gs (xs ++ ys) ≡ chunks gs xs

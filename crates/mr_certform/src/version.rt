@@ -111,7 +111,8 @@ impl Certificate {
         ensures { MatchOption result (AllByRecursion (CanSpell version) self.now.groups → ⊥)
             (λ s. s ≡ record { version = version; certificate = self.now }) }
     {
-        if !version.can_spell(&self.flat.groups.entry_counts, self.names()) {
+        let groups = &self.flat.groups;
+        if !version.can_spell(&groups.entry_counts, groups.names.names()) {
             return None;
         }
         Some(VersionedCertificate {
@@ -136,16 +137,15 @@ fn never_fall(counts: &[u32], names: Names<'_>) -> bool
     true
 }
 
-fn never_falls(names: Names<'_>) -> bool
+fn never_falls(mut names: Names<'_>) -> bool
     ensures { IsTrue result ↔ CanRow Version.V2 first_name names.entry }
 {
-    let mut rest = names;
     let mut before = Name {
         split: 0,
         rec: 0,
         place: 0,
     };
-    while let Some(name) = rest.next() {
+    while let Some(name) = names.next() {
         if !is_at_least(before, name) {
             return false;
         }

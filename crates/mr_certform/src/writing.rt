@@ -77,18 +77,17 @@ fn put_name<O: Sink>(
     }
 }
 
-fn put_names<O: Sink>(out: &mut O, version: Version, names: Names<'_>) -> Result<(), O::Fault>
+fn put_names<O: Sink>(out: &mut O, version: Version, mut names: Names<'_>) -> Result<(), O::Fault>
     requires { CanRow version first_name names }
     ensures { OnOk result (O.takes out.old out.new (names_bytes version first_name names.entry)
         × AllByRecursion NameFits names.entry) }
 {
-    let mut rest = names;
     let mut before = Name {
         split: 0,
         rec: 0,
         place: 0,
     };
-    while let Some(name) = rest.next() {
+    while let Some(name) = names.next() {
         put_name(out, version, before, name)?;
         before = name;
     }
@@ -266,11 +265,10 @@ fn skip_fits(skip: RecordName)
     let _rec = skip.rec;
 }
 
-pub(crate) fn names_fit(names: Names<'_>)
+pub(crate) fn names_fit(mut names: Names<'_>)
     ensures { AllByRecursion NameFits names.entry }
 {
-    let mut rest = names;
-    while let Some(name) = rest.next() {
+    while let Some(name) = names.next() {
         name_fits(name);
     }
 }

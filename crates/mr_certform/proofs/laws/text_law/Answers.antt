@@ -23,7 +23,7 @@ returns c =
     let v = c.args.spelled.now.version in
     let t : Told = c.flat-flat.result.now in
     let e = c.flat-flat.ensures in
-    let names : AllByRecursion NameFits c.flat-flat.result.now.names = subst (AllByRecursion NameFits) (c.deref.ensures.value ∙ ap (λ (t : Told). t.names) c.flat.view_is) c.names_fit.ensures in
-    let skips : AllByRecursion SkipFits c.flat-flat.result.now.skips = subst (AllByRecursion SkipFits) (c.deref-2.ensures.value ∙ ap (λ (t : Told). t.skips) c.flat.view_is) c.skips_fit.ensures in
+    let names : AllByRecursion NameFits c.flat-flat.result.now.names = subst (AllByRecursion NameFits) (c.names.ensures ∙ ap (λ (t : Told). t.names) c.flat.view_is) c.names_fit.ensures in
+    let skips : AllByRecursion SkipFits c.flat-flat.result.now.skips = subst (AllByRecursion SkipFits) (c.deref.ensures.value ∙ ap (λ (t : Told). t.skips) c.flat.view_is) c.skips_fit.ensures in
     known v t c.args.spelled.now.certificate e.is
     (whole_spells v (all_bytes v (contents_of t)) t e.whole c.numbers_fit.ensures (parts_can v t e.can) (refl, (skips, chunks_fit t.entry_counts t.names names)))

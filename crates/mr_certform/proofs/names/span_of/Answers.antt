@@ -1,9 +1,8 @@
-use Rattle.std.proofs.Common.{rules, of_calls, ◌∙◌, ◌≡◌, ◌≤◌, ◌<◌, ◌-◌, ℕ, ap, sym, leb, leb-true, length, List, arith}
+use Rattle.std.proofs.Common.{rules, of_calls, ◌∙◌, ◌-◌, ap, sym, leb, leb-true, arith}
 use Rattle.std.proofs.lemmas.Bool.{leb-false}
 use Rattle.std.proofs.lemmas.List.{get_or_default}
 use Rattle.std.proofs.lemmas.List.Sorted.{IsPartitionPoint-from_clause, IsPartitionedBy-leb}
-use Rattle.std.specs.List.Sorted.{IsNonDecreasing}
-use Rattle.mr_certform.specs.Packed.{split_under, first_under}
+use Rattle.mr_certform.specs.Packed.{first_under}
 use Rattle.mr_certform.proofs.Packed.{split_begun, split_covers}
 use Rattle.mr_certform.proofs.names.span_of.Goals as goal
 

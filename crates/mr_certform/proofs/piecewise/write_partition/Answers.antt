@@ -32,7 +32,7 @@ text-more v d counts names old mid new o m n =
 pub returns : goal.returns
 returns c = λ d so_far.
     let counts = c.args.counts.now in
-    let names = c.args.names.now in
+    let names = c.args.names in
     let part : List (List Name) = chunks counts names in
     let fits : PartFits part = record {
       count = omega (arith, length-chunks counts names, c.requires.few);

@@ -20,28 +20,28 @@ first_can v cs n ns rest e can = subst (λ w. CanSpell v (chunks w rest)) e can
 pub put_names-requires : goal.put_names-requires
 put_names-requires g c =
     let e : drop c.loop-count.count-index c.args.counts.now ≡ get_or c.args.counts.now c.loop-count.count-index 0 ∷ drop (c.loop-count.count-index + 1) c.args.counts.now = drop_more c.args.counts.now c.loop-count.count-index 0 c.loop-count-test.true in
-    rw c.split_at.ensures.front ((first_can c.args.version _ _ _ c.loop-count.rest.now e c.loop-count.invariant.can).0)
+    rw c.split_at-here.ensures.front ((first_can c.args.version _ _ _ c.loop-count.rest e c.loop-count.invariant.can).0)
 
 pub loop-count-preserved : goal.loop-count-preserved
 loop-count-preserved g c =
     let cs = c.args.counts.now in
     let i = c.loop-count.count-index in
     let n = get_or c.args.counts.now c.loop-count.count-index 0 in
-    let rest = c.loop-count.rest.now in
+    let rest = c.loop-count.rest in
     let inv = c.loop-count.invariant in
     let e : drop c.loop-count.count-index c.args.counts.now ≡ get_or c.args.counts.now c.loop-count.count-index 0 ∷ drop (c.loop-count.count-index + 1) c.args.counts.now = drop_more c.args.counts.now c.loop-count.count-index 0 c.loop-count-test.true in
-    let back : c.split_at.result.1.now ≡ drop (get_or c.args.counts.now c.loop-count.count-index 0) c.loop-count.rest.now = c.split_at.ensures.back in
-    let fit : AllByRecursion NameFits (take (get_or c.args.counts.now c.loop-count.count-index 0) c.loop-count.rest.now) = subst (AllByRecursion NameFits) c.split_at.ensures.front (c.in_ok-put_names.ensures.1) in
-    let here = take (get_or c.args.counts.now c.loop-count.count-index 0) c.loop-count.rest.now in
+    let back : c.split_at-here.result.1 ≡ drop (get_or c.args.counts.now c.loop-count.count-index 0) c.loop-count.rest = c.split_at-here.ensures.back in
+    let fit : AllByRecursion NameFits (take (get_or c.args.counts.now c.loop-count.count-index 0) c.loop-count.rest) = subst (AllByRecursion NameFits) c.split_at-here.ensures.front (c.in_ok-put_names.ensures.1) in
+    let here = take (get_or c.args.counts.now c.loop-count.count-index 0) c.loop-count.rest in
     let v = c.args.version in
-    let names : names_bytes v first_name c.split_at.result.0.now ≡ names_bytes v first_name (take (get_or c.args.counts.now c.loop-count.count-index 0) c.loop-count.rest.now) =
-    ap (names_bytes v first_name) c.split_at.ensures.front in
+    let names : names_bytes v first_name c.split_at-here.result.0 ≡ names_bytes v first_name (take (get_or c.args.counts.now c.loop-count.count-index 0) c.loop-count.rest) =
+    ap (names_bytes v first_name) c.split_at-here.ensures.front in
     let text : g.O.Sink.takes c.loop-count.out c.put_names.new.out (u32 n ++ names_bytes v first_name here) =
     subst (λ w. g.O.Sink.takes c.loop-count.out c.put_names.new.out (u32 (get_or c.args.counts.now c.loop-count.count-index 0) ++ w)) names
     (g.met.O.Sink.joined c.loop-count.out c.put_number.new.out c.put_names.new.out (u32 n) _ c.in_ok-put_number.ensures c.in_ok-put_names.ensures.0) in
     rw back (record {
       spelled = put_piece g.O.Sink.takes g.met.O.Sink.joined c.args.out.now c.loop-count.out c.put_names.new.out _ _ _ _ text (groups_spelled v _ n _ rest [] _ e inv.room refl) inv.spelled;
-      can = (first_can c.args.version _ _ _ c.loop-count.rest.now e inv.can).1;
+      can = (first_can c.args.version _ _ _ c.loop-count.rest e inv.can).1;
       room = groups_room _ n _ rest e inv.room;
       behind = groups_behind _ n _ rest _ e inv.behind;
       fits = fits_more _ n _ rest _ e fit inv.fits;

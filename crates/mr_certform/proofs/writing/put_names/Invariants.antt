@@ -1,4 +1,4 @@
-use Rattle.std.proofs.Common.{drop}
+use Rattle.std.proofs.Common.{length}
 use Rattle.std.specs.List.{AllByRecursion}
 use Rattle.mr_certform.specs.Places.{first_name}
 use Rattle.mr_certform.specs.Value.{NameFits, CanRow}
@@ -7,7 +7,10 @@ use Rattle.mr_certform.proofs.writing.put_names.Given as goal
 
 abbrev pub invariant-loop-name : goal.invariant-loop-name
 invariant-loop-name g l = record {
-  spelled : (new : _) → g.O.Sink.takes l.out new (names_bytes l.version l.before (drop l.name-index l.names)) → g.O.Sink.takes l.initial.out new (names_bytes l.version first_name l.names);
-  can : CanRow l.version l.before (drop l.name-index l.names);
-  fits : AllByRecursion NameFits (drop l.name-index l.names) → AllByRecursion NameFits l.names;
+  spelled : (new : _) → g.O.Sink.takes l.out new (names_bytes l.version l.before l.names) → g.O.Sink.takes l.initial.out new (names_bytes l.version first_name l.fn.names);
+  can : CanRow l.version l.before l.names;
+  fits : AllByRecursion NameFits l.names → AllByRecursion NameFits l.fn.names;
 }
+
+abbrev pub decreases-loop-name : goal.decreases-loop-name
+decreases-loop-name g l = length l.names

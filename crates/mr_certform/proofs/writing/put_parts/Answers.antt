@@ -22,7 +22,7 @@ others_can : (v : Version) (n : ℕ) (cs : List ℕ) (xs : List Name) → CanSpe
 others_can v n cs xs can = subst (CanSpell v) (chunks_drop n cs xs) (All-drop (CanRow v first_name) n (chunks cs xs) can)
 
 pub put_groups-requires-clause-can : goal.put_groups-requires-clause-can
-put_groups-requires-clause-can g c = rw c.split_at.ensures.front (first_can c.args.version (get_or c.args.group_counts.now c.loop-groups.groups-index 0) c.loop-groups.counts.now c.loop-groups.rest.now c.loop-groups.invariant.can)
+put_groups-requires-clause-can g c = rw c.split_at.ensures.front (first_can c.args.version (get_or c.args.group_counts.now c.loop-groups.groups-index 0) c.loop-groups.counts.now c.loop-groups.rest c.loop-groups.invariant.can)
 
 pub put_groups-requires-clause-room : goal.put_groups-requires-clause-room
 put_groups-requires-clause-room g c = rw c.split_at.ensures.front (omega (arith, total_cut (get_or c.args.group_counts.now c.loop-groups.groups-index 0) c.loop-groups.counts.now, c.loop-groups.invariant.room))
@@ -33,17 +33,17 @@ loop-groups-preserved g c =
     let inv = c.loop-groups.invariant in
     let e : drop c.loop-groups.groups-index c.args.group_counts.now ≡ get_or c.args.group_counts.now c.loop-groups.groups-index 0 ∷ drop (c.loop-groups.groups-index + 1) c.args.group_counts.now = drop_more c.args.group_counts.now c.loop-groups.groups-index 0 c.loop-groups-test.true in
     let back : c.split_at.result.1.now ≡ drop (get_or c.args.group_counts.now c.loop-groups.groups-index 0) c.loop-groups.counts.now = c.split_at.ensures.back in
-    let rest : c.in_ok-rest.rest.now ≡ drop (total (take (get_or c.args.group_counts.now c.loop-groups.groups-index 0) c.loop-groups.counts.now)) c.loop-groups.rest.now = cc (c.in_ok-rest.ensures.1, c.split_at.ensures.front) in
-    let fit : AllByRecursion (AllByRecursion NameFits) (chunks (take (get_or c.args.group_counts.now c.loop-groups.groups-index 0) c.loop-groups.counts.now) c.loop-groups.rest.now) = subst (λ w. AllByRecursion (AllByRecursion NameFits) (chunks w c.loop-groups.rest.now)) c.split_at.ensures.front (c.in_ok-rest.ensures.2) in
-    let groups : flat_map (group_bytes c.args.version) (chunks c.split_at.result.0.now c.loop-groups.rest.now) ≡ flat_map (group_bytes c.args.version) (chunks (take (get_or c.args.group_counts.now c.loop-groups.groups-index 0) c.loop-groups.counts.now) c.loop-groups.rest.now) =
-    ap (λ w. flat_map (group_bytes c.args.version) (chunks w c.loop-groups.rest.now)) c.split_at.ensures.front in
-    let text : g.O.Sink.takes c.loop-groups.out c.put_groups.new.out (u32 n ++ flat_map (group_bytes c.args.version) (chunks (take n c.loop-groups.counts.now) c.loop-groups.rest.now)) =
+    let rest : c.in_ok-rest.rest ≡ drop (total (take (get_or c.args.group_counts.now c.loop-groups.groups-index 0) c.loop-groups.counts.now)) c.loop-groups.rest = cc (c.in_ok-rest.ensures.1, c.split_at.ensures.front) in
+    let fit : AllByRecursion (AllByRecursion NameFits) (chunks (take (get_or c.args.group_counts.now c.loop-groups.groups-index 0) c.loop-groups.counts.now) c.loop-groups.rest) = subst (λ w. AllByRecursion (AllByRecursion NameFits) (chunks w c.loop-groups.rest)) c.split_at.ensures.front (c.in_ok-rest.ensures.2) in
+    let groups : flat_map (group_bytes c.args.version) (chunks c.split_at.result.0.now c.loop-groups.rest) ≡ flat_map (group_bytes c.args.version) (chunks (take (get_or c.args.group_counts.now c.loop-groups.groups-index 0) c.loop-groups.counts.now) c.loop-groups.rest) =
+    ap (λ w. flat_map (group_bytes c.args.version) (chunks w c.loop-groups.rest)) c.split_at.ensures.front in
+    let text : g.O.Sink.takes c.loop-groups.out c.put_groups.new.out (u32 n ++ flat_map (group_bytes c.args.version) (chunks (take n c.loop-groups.counts.now) c.loop-groups.rest)) =
     subst (λ w. g.O.Sink.takes c.loop-groups.out c.put_groups.new.out (u32 (get_or c.args.group_counts.now c.loop-groups.groups-index 0) ++ w)) groups
     (g.met.O.Sink.joined c.loop-groups.out c.put_number.new.out c.put_groups.new.out (u32 n) _ c.in_ok-put_number.ensures c.in_ok-rest.ensures.0) in
     rw (back, rest) (record {
-      spelled = put_piece g.O.Sink.takes g.met.O.Sink.joined c.args.out.now c.loop-groups.out c.put_groups.new.out _ _ _ _ text (parts_spelled c.args.version _ n _ c.loop-groups.counts.now c.loop-groups.rest.now [] _ e (omega (arith, inv.groups)) refl) inv.spelled;
+      spelled = put_piece g.O.Sink.takes g.met.O.Sink.joined c.args.out.now c.loop-groups.out c.put_groups.new.out _ _ _ _ text (parts_spelled c.args.version _ n _ c.loop-groups.counts.now c.loop-groups.rest [] _ e (omega (arith, inv.groups)) refl) inv.spelled;
       groups = omega (arith, ap total e, inv.groups, length-drop n c.loop-groups.counts.now);
-      room = omega (arith, inv.room, total_cut n c.loop-groups.counts.now, length-drop (total (take n c.loop-groups.counts.now)) c.loop-groups.rest.now);
-      can = others_can c.args.version n c.loop-groups.counts.now c.loop-groups.rest.now inv.can;
-      fits = fits_more n c.loop-groups.counts.now c.loop-groups.rest.now _ fit inv.fits;
+      room = omega (arith, inv.room, total_cut n c.loop-groups.counts.now, length-drop (total (take n c.loop-groups.counts.now)) c.loop-groups.rest);
+      can = others_can c.args.version n c.loop-groups.counts.now c.loop-groups.rest inv.can;
+      fits = fits_more n c.loop-groups.counts.now c.loop-groups.rest _ fit inv.fits;
     })

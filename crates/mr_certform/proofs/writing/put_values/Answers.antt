@@ -36,7 +36,7 @@ can_text v es fs ns ms d k h = subst (λ w. CanSpell v (chunks fs w)) k (subst (
 pub put_parts-requires-clause-can : goal.put_parts-requires-clause-can
 put_parts-requires-clause-can g c =
     let es : c.deref-4.result.now ≡ c.args.flat.now.entry_counts = c.deref-4.ensures.value ∙ ap (λ (t : Told). t.entry_counts) c.flat.view_is in
-    let ns : c.deref-5.result.now ≡ c.args.flat.now.names = c.deref-5.ensures.value ∙ ap (λ (t : Told). t.names) c.flat.view_is in
+    let ns : c.names.result ≡ c.args.flat.now.names = c.names.ensures ∙ ap (λ (t : Told). t.names) c.flat.view_is in
     can_text c.args.version _ _ _ _ (sym es) (sym ns) c.requires.can
 
 pub returns : goal.returns
@@ -45,7 +45,7 @@ returns g c =
     let ss : c.deref-2.result.now ≡ c.args.flat.now.skips = c.deref-2.ensures.value ∙ ap (λ (t : Told). t.skips) c.flat.view_is in
     let gs : c.deref-3.result.now ≡ c.args.flat.now.group_counts = c.deref-3.ensures.value ∙ ap (λ (t : Told). t.group_counts) c.flat.view_is in
     let es : c.deref-4.result.now ≡ c.args.flat.now.entry_counts = c.deref-4.ensures.value ∙ ap (λ (t : Told). t.entry_counts) c.flat.view_is in
-    let ns : c.deref-5.result.now ≡ c.args.flat.now.names = c.deref-5.ensures.value ∙ ap (λ (t : Told). t.names) c.flat.view_is in
+    let ns : c.names.result ≡ c.args.flat.now.names = c.names.ensures ∙ ap (λ (t : Told). t.names) c.flat.view_is in
     let takes = g.O.Sink.takes in
     on_ok_weaker c.put_parts.result (λ t. (
       all_joined g.O.Sink.takes g.met.O.Sink.joined c.args.out.now c.put_job.new.out c.put_input.new.out c.put_left_out.new.out c.put_parts.new.out

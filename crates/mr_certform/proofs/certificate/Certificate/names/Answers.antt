@@ -5,4 +5,4 @@ use Rattle.mr_certform.proofs.Groups.{all_names}
 use Rattle.mr_certform.proofs.certificate.Certificate.names.Goals as goal
 
 pub returns : goal.returns
-returns c = c.as_slice.ensures.value ∙ (ap (λ (i : Inside). i.flat.names) c.self-inside.view_is ∙ (sym (all_names c.self.inside.flat c.self.invariant) ∙ ap names_of c.self.view_is))
+returns c = c.names.ensures ∙ (ap (λ (i : Inside). i.flat.names) c.self-inside.view_is ∙ (sym (all_names c.self.inside.flat c.self.invariant) ∙ ap names_of c.self.view_is))

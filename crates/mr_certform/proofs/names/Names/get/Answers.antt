@@ -1,4 +1,4 @@
-use Rattle.std.proofs.Common.{◌≡◌, ◌/◌, ◌^◌, ◌∙◌, ap, sym, get_or, List}
+use Rattle.std.proofs.Common.{◌∙◌, ap, sym, get_or, List}
 use Rattle.mr_bytes.specs.declared.Name.{Name}
 use Rattle.mr_certform.specs.Packed.{split_under, first_under}
 use Rattle.mr_certform.specs.Places.{first_name}
