@@ -24,7 +24,7 @@ ghost use Rattle.mr_book.specs.Assembling.{Gathering as Gathered};
 
 use crate::book::Book;
 use mr_bytes::{Name, RecordName};
-use mr_certform::{Certificate, FlatGroups};
+use mr_certform::{Certificate, FlatGroups, NameColumn};
 use mr_input::Input;
 use mr_jobs::Request;
 use mr_sequential::header_of;
@@ -149,12 +149,12 @@ impl Model for Gathering {
 
     ghost view = { λ g. record {
       outputs = contents g.outputs.items;
-      groups = chunks g.groups.group_counts.items (chunks g.groups.entry_counts.items g.groups.names.items);
+      groups = chunks g.groups.group_counts.items (chunks g.groups.entry_counts.items g.groups.names);
     } };
 
     ghost invariant = { λ g. record {
       one_each : length g.outputs.items ≡ length g.groups.group_counts.items;
-      counted : AreCounted g.groups.group_counts.items g.groups.entry_counts.items g.groups.names.items;
+      counted : AreCounted g.groups.group_counts.items g.groups.entry_counts.items g.groups.names;
     } };
 }
 
@@ -169,11 +169,11 @@ fn append_groups(
         ≡ groups.old.group_counts.items ++ length counts.now ∷ []) }
     ensures entries { OnOk result (groups.new.entry_counts.items
         ≡ groups.old.entry_counts.items ++ counts.now) }
-    ensures names { OnOk result (groups.new.names.items ≡ groups.old.names.items ++ members.now) }
+    ensures names { OnOk result (groups.new.names ≡ groups.old.names ++ members.now) }
 {
     groups.group_counts.push(counts.len() as u32)?;
     groups.entry_counts.extend_from_slice(counts)?;
-    groups.names.extend_from_slice(members)?;
+    groups.names.append(members)?;
     Ok(())
 }
 
@@ -186,7 +186,7 @@ impl Gathering {
             groups: FlatGroups {
                 group_counts: Vec::new(alloc),
                 entry_counts: Vec::new(alloc),
-                names: Vec::new(alloc),
+                names: NameColumn::plain(alloc, Vec::new(alloc)),
             },
         }
     }

@@ -10,7 +10,7 @@ ghost use Rattle.mr_book.specs.Faithful.{IsFaithful, IsOpenedFor};
 ghost use Rattle.mr_book.specs.Assembling.{SpellsWhereItCan, committed_groups, reduced_under};
 
 use crate::book::Book;
-use mr_certform::{Header, Version, partition_size_hint, write_header, write_partition};
+use mr_certform::{Header, Names, Version, partition_size_hint, write_header, write_partition};
 use mr_input::Input;
 use mr_jobs::Request;
 use mr_sequential::header_of;
@@ -45,7 +45,7 @@ impl<L: Ledger> Book<L> {
         let parts = self.shape().parts;
         for partition in 0..parts {
             let (counts, names) = self.committed(partition).flat_groups();
-            if !version.can_spell(counts, names) {
+            if !version.can_spell(counts, Names::plain(names)) {
                 return false;
             }
         }
@@ -108,7 +108,7 @@ impl<L: Ledger> Book<L> {
         let mut out = write_header(alloc, version, header, parts, room)?;
         for partition in 0..parts {
             let (counts, names) = self.committed(partition).flat_groups();
-            write_partition(&mut out, version, counts, names)?;
+            write_partition(&mut out, version, counts, Names::plain(names))?;
         }
         Ok(out)
     }

@@ -9,8 +9,8 @@ use crate::streaming;
 use crate::telling::Teller;
 use mr_bytes::Name;
 use mr_certform::{
-    Certificate, FlatGroups, GroupIter, Header, Item, ReadFault, Version, VersionedCertificate,
-    Walker, WriteFault, read, write,
+    Certificate, FlatGroups, GroupIter, Header, Item, NameColumn, Names, ReadFault, Version,
+    VersionedCertificate, Walker, WriteFault, read, write,
 };
 use mr_store::{MemoryWriter, write_encoded};
 use std::alloc::{AllocError, Global};
@@ -49,7 +49,7 @@ pub fn of_words(
     let groups = FlatGroups {
         group_counts: Vec::from_slice(alloc, &[entry_counts.len() as u32])?,
         entry_counts: Vec::from_slice(alloc, entry_counts)?,
-        names: Vec::from_slice(alloc, names)?,
+        names: NameColumn::plain(alloc, Vec::from_slice(alloc, names)?),
     };
     Ok(Certificate::of(header, groups))
 }
@@ -102,28 +102,39 @@ fn show(teller: &Teller, certificate: &Certificate) {
     teller.named("total ", &certificate.total());
 }
 
+/// The names, as a list.
+fn listed(alloc: Global, names: &Names<'_>) -> Result<Vec<Name>, AllocError> {
+    let mut list = Vec::new(alloc);
+    for i in 0..names.len() {
+        list.push(names.get(i))?;
+    }
+    Ok(list)
+}
+
 /// Tells the names of each group of a partition.
-fn show_groups(teller: &Teller, mut groups: GroupIter<'_>) {
+fn show_groups(teller: &Teller, mut groups: GroupIter<'_>) -> Result<(), AllocError> {
     for _ in 0..SHORT {
         match groups.next_group() {
-            Some(names) => teller.named("group ", &names),
+            Some(names) => teller.named("group ", &listed(teller.alloc(), &names)?),
             None => break,
         }
     }
+    Ok(())
 }
 
 /// Tells the groups of each partition.
-fn show_partitions(teller: &Teller, certificate: &Certificate) {
+fn show_partitions(teller: &Teller, certificate: &Certificate) -> Result<(), AllocError> {
     let mut partitions = certificate.partitions();
     for _ in 0..SHORT {
         match partitions.next_partition() {
             Some(groups) => {
                 teller.line(&"partition");
-                show_groups(teller, groups);
+                show_groups(teller, groups)?;
             }
             None => break,
         }
     }
+    Ok(())
 }
 
 /// Whether the certificate is written as these bytes onto a writer, which is given them piece by piece.
@@ -177,7 +188,7 @@ fn show_read(teller: &Teller, certificate: &Certificate, bytes: &[u8]) -> Result
     let again = is_written_again(teller.alloc(), certificate, bytes)?;
     teller.named("written again: ", &again);
     if bytes.len() <= SHORT {
-        show_partitions(teller, certificate);
+        show_partitions(teller, certificate)?;
     }
     Ok(())
 }
