@@ -23,7 +23,7 @@ loop-partition-preserved g c =
     (parts_count k.shape b.history k.state b.reduces c.limits-limits.ensures.within.parts.0 c.limits-limits.ensures.within.attempts.0 c.core.ensures.run.0) in
     let within : c.loop-partition.partition < length vs = omega (arith, c.loop-partition-test.true, ap (λ (s : Shape). s.parts) c.shape-parts.ensures.shape, count) in
     let can : CanSpell c.args.version c.committed.result.now.groups =
-    subst (CanSpell c.args.version) c.flat_groups.ensures.groups (c.can_spell.ensures.0 c.if-not-can_spell.false) in
+    subst (CanSpell c.args.version) (ap (chunks c.flat_groups.result.0.now) c.plain.ensures ∙ c.flat_groups.ensures.groups) (c.can_spell.ensures.0 c.if-not-can_spell.false) in
     can_more c.args.version vs c.loop-partition.partition c.committed.result.now within c.loop-partition.invariant c.committed.ensures can
 
 pub returns-then-not-can_spell : goal.returns-then-not-can_spell
@@ -35,8 +35,8 @@ returns-then-not-can_spell g c =
     subst (λ (v : CoreView). length (committed_values (reduced_under b.reduces) v.state) ≡ v.shape.parts) c.core.ensures.core
     (parts_count k.shape b.history k.state b.reduces c.limits-limits.ensures.within.parts.0 c.limits-limits.ensures.within.attempts.0 c.core.ensures.run.0) in
     let within : c.loop-partition.partition < length vs = omega (arith, c.loop-partition-test.true, ap (λ (s : Shape). s.parts) c.shape-parts.ensures.shape, count) in
-    let groups : chunks c.flat_groups.result.0.now c.flat_groups.result.1.now ≡ (slice_index_or vs c.loop-partition.partition nothing).groups =
-    c.flat_groups.ensures.groups ∙ ap (λ (v : Reduced). v.groups) c.committed.ensures in (
+    let groups : chunks c.flat_groups.result.0.now c.plain.result ≡ (slice_index_or vs c.loop-partition.partition nothing).groups =
+    ap (chunks c.flat_groups.result.0.now) c.plain.ensures ∙ c.flat_groups.ensures.groups ∙ ap (λ (v : Reduced). v.groups) c.committed.ensures in (
       λ yes. absurd (false≢true yes),
       λ all. absurd (false≢true (sym c.if-not-can_spell.true ∙ c.can_spell.ensures.1 (subst (CanSpell c.args.version) (sym groups) (can_at c.args.version vs c.loop-partition.partition within all)))),
     )

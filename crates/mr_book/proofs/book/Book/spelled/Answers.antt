@@ -23,8 +23,8 @@ write_partition-requires-clause-can g c =
     subst (λ (v : CoreView). length (committed_values (reduced_under b.reduces) v.state) ≡ v.shape.parts) c.core.ensures.core
     (parts_count k.shape b.history k.state b.reduces c.limits-limits.ensures.within.parts.0 c.limits-limits.ensures.within.attempts.0 c.core.ensures.run.0) in
     let within : c.loop-partition.partition < length vs = omega (arith, c.loop-partition-test.true, ap (λ (s : Shape). s.parts) c.shape-parts.ensures.shape, count) in
-    let groups : chunks c.flat_groups.result.0.now c.flat_groups.result.1.now ≡ (slice_index_or vs c.loop-partition.partition nothing).groups =
-    c.flat_groups.ensures.groups ∙ ap (λ (v : Reduced). v.groups) c.committed.ensures in
+    let groups : chunks c.flat_groups.result.0.now c.plain.result ≡ (slice_index_or vs c.loop-partition.partition nothing).groups =
+    ap (chunks c.flat_groups.result.0.now) c.plain.ensures ∙ c.flat_groups.ensures.groups ∙ ap (λ (v : Reduced). v.groups) c.committed.ensures in
     subst (CanSpell c.args.version) (sym groups) (can_at c.args.version vs c.loop-partition.partition within c.requires.can)
 
 pub loop-partition-preserved : goal.loop-partition-preserved
@@ -50,7 +50,7 @@ loop-partition-preserved g c =
     let so_far : List (List (List Name)) = map (λ (v : Reduced). v.groups) (take c.loop-partition.partition vs) in
     let more : so_far ++ c.committed.result.now.groups ∷ [] ≡ map (λ (v : Reduced). v.groups) (take (c.loop-partition.partition + 1) vs) =
     mapped_more (λ (v : Reduced). v.groups) vs c.loop-partition.partition so_far c.committed.result.now within refl c.committed.ensures in
-    subst (λ gs. SpellsSoFar c.args.version c.write_partition.new.out.items (with_groups gs)) (ap (λ (w : List (List Name)). so_far ++ w ∷ []) c.flat_groups.ensures.groups ∙ more)
+    subst (λ gs. SpellsSoFar c.args.version c.write_partition.new.out.items (with_groups gs)) (ap (λ (w : List (List Name)). so_far ++ w ∷ []) (ap (chunks c.flat_groups.result.0.now) c.plain.ensures ∙ c.flat_groups.ensures.groups) ∙ more)
     (c.in_ok-write_partition.ensures (with_groups so_far) c.loop-partition.invariant)
 
 pub returns : goal.returns
