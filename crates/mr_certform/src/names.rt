@@ -8,8 +8,8 @@
 //! is the last one that begins at or before its record. `Names` keeps the split of the last name:
 //! its records lie from `first` to before `end`, and none of them is searched for.
 //! Cost: a step for a name of the same split as the one before, else a binary search of the splits.
-ghost use Rattle.std.specs.Prelude.{◌≡◌, ℕ, ◌<◌, ◌≤◌, ◌^◌, ◌/◌, ◌%◌, ◌-◌, ◌++◌, ◌∷◌, [], OnOk, MatchOption, length};
-ghost use Rattle.std.specs.Prelude.{map, take, drop, slice_index_or};
+ghost use Rattle.std.specs.Prelude.{◌≡◌, ◌<◌, ◌≤◌, ◌^◌, ◌/◌, ◌%◌, ◌-◌, ◌++◌, ◌∷◌, [], OnOk};
+ghost use Rattle.std.specs.Prelude.{MatchOption, length, map, take, drop, slice_index_or};
 ghost use Rattle.mr_certform.specs.Packed.{AreFirsts, Covers, split_under, first_under, name_under};
 ghost use Rattle.mr_certform.specs.Places.{first_name};
 
