@@ -1,3 +1,4 @@
+pub mod PackedLemmas
 pub mod CertifiedLaws
 pub mod EntryLaws
 pub mod FillLemmas

@@ -48,7 +48,7 @@ fn outputs_by_rank(
         (zip numbers.items (map (value_under job.now (records_of kept.now.cut))
         (names_beside (kept_records kept.now.skips (records_of kept.now.cut)) counts.items)))) p 0 rows.now) }
     ensures groups { IfOk result (λ r. AreGrouped parts rows.now numbers.items
-        (names_beside (kept_records kept.now.skips (records_of kept.now.cut)) counts.items) r.1.group_counts.items r.1.entry_counts.items r.1.names.items) }
+        (names_beside (kept_records kept.now.skips (records_of kept.now.cut)) counts.items) r.1.group_counts.items r.1.entry_counts.items r.1.names) }
 {
     // The texts may take more memory than all this: what they don't need goes first.
     let groups = grouped(alloc, kept, rows, numbers, counts, parts)?;
@@ -77,9 +77,9 @@ pub(crate) fn outputs(
         (valued job.now (records_of kept.now.cut) gathered (names_beside (kept_records kept.now.skips (records_of kept.now.cut)) counts.items)) p) }
     ensures parts { IfOk result (λ r. length r.1.group_counts.items ≡ parts) }
     ensures counted { IfOk result
-        (λ r. AreCounted r.1.group_counts.items r.1.entry_counts.items r.1.names.items) }
+        (λ r. AreCounted r.1.group_counts.items r.1.entry_counts.items r.1.names) }
     ensures groups { IfOk result
-        (λ r. chunks r.1.group_counts.items (chunks r.1.entry_counts.items r.1.names.items)
+        (λ r. chunks r.1.group_counts.items (chunks r.1.entry_counts.items r.1.names)
         ≡ map (groups_in (λ k. partition_by by k parts) gathered
         (names_beside (kept_records kept.now.skips (records_of kept.now.cut)) counts.items))
         (range_with_len 0 parts)) }

@@ -173,9 +173,9 @@ fn outputs_of(
         ≡ sequential request.now kept.now.cut.files kept.now.skips p) }
     ensures parts { IfOk result (λ r. length r.1.group_counts.items ≡ request.now.parts) }
     ensures counted { IfOk result
-        (λ r. AreCounted r.1.group_counts.items r.1.entry_counts.items r.1.names.items) }
+        (λ r. AreCounted r.1.group_counts.items r.1.entry_counts.items r.1.names) }
     ensures groups { IfOk result
-        (λ r. chunks r.1.group_counts.items (chunks r.1.entry_counts.items r.1.names.items)
+        (λ r. chunks r.1.group_counts.items (chunks r.1.entry_counts.items r.1.names)
         ≡ (certificate_of request.now kept.now.cut.files kept.now.skips).groups) }
 {
     // Files within the limits of an input emit fewer pairs than a u32 numbers.

@@ -8,8 +8,8 @@ ghost use Rattle.mr_splits.specs.Cut.{records_of};
 ghost use Rattle.mr_sequential.specs.Names.{IsOfRecord, value_under};
 ghost use Rattle.mr_sequential.specs.Rows.{count_line, names_text, row_names, row_start, row_texts};
 
-use mr_bytes::{Name, ValueColumn};
-use mr_certform::FlatGroups;
+use mr_bytes::ValueColumn;
+use mr_certform::{FlatGroups, Names};
 use mr_group::Row;
 use mr_jobs::Job;
 use mr_reduce::{append_text, append_total, group_text};
@@ -43,15 +43,16 @@ fn add_lines(
     job: &Job,
     plan: &Plan<'_>,
     key: &[u8],
-    names: &[Name],
+    names: Names<'_>,
     text: &mut Vec<u8>,
 ) -> Result<(), AllocError>
     requires lines { has_lines job.now ≡ true }
-    requires named { All (IsOfRecord plan.now) names.now }
+    requires named { All (IsOfRecord plan.now) names }
     ensures { OnOk result (text.new.items ≡ text.old.items
-        ++ text_of job.now key.now (map (value_under job.now (records_of plan.now)) names.now)) }
+        ++ text_of job.now key.now (map (value_under job.now (records_of plan.now)) names.entry)) }
 {
-    for name in names {
+    let mut left = names;
+    while let Some(name) = left.next() {
         let record = plan.locate(name.split, name.rec);
         let value = job.value_at(record.file, record.start);
         group_text(job, key, &[value], text)?;
@@ -64,18 +65,20 @@ fn add_lines(
 fn fill_files(
     job: &Job,
     plan: &Plan<'_>,
-    names: &[Name],
+    names: Names<'_>,
     told: &mut ValueColumn,
 ) -> Result<(), AllocError>
     requires counts { is_counter job.now ≡ false }
     requires lines { has_lines job.now ≡ false }
-    requires named { All (IsOfRecord plan.now) names.now }
+    requires named { All (IsOfRecord plan.now) names }
     ensures { OnOk result (files_of told.new
-        ≡ files_of (map (value_under job.now (records_of plan.now)) names.now)) }
+        ≡ files_of (map (value_under job.now (records_of plan.now)) names.entry)) }
 {
     told.clear();
+    let _count = names.len();
     let mut last = None;
-    for name in names {
+    let mut left = names;
+    while let Some(name) = left.next() {
         let record = plan.locate(name.split, name.rec);
         if last != Some(record.file) {
             told.push(job.value_at(record.file, record.start))?;
@@ -89,14 +92,14 @@ fn add_text(
     job: &Job,
     plan: &Plan<'_>,
     key: &[u8],
-    names: &[Name],
+    names: Names<'_>,
     told: &mut ValueColumn,
     text: &mut Vec<u8>,
 ) -> Result<(), AllocError>
     requires counts { is_counter job.now ≡ false }
-    requires named { All (IsOfRecord plan.now) names.now }
+    requires named { All (IsOfRecord plan.now) names }
     ensures { OnOk result (text.new.items ≡ text.old.items
-        ++ text_of job.now key.now (map (value_under job.now (records_of plan.now)) names.now)) }
+        ++ text_of job.now key.now (map (value_under job.now (records_of plan.now)) names.entry)) }
 {
     if job.has_lines() {
         return add_lines(job, plan, key, names, text);
@@ -110,17 +113,17 @@ fn add_names(
     plan: &Plan<'_>,
     texts: &mut Vec<Vec<u8>>,
     row: Row<'_>,
-    names: &[Name],
+    names: Names<'_>,
     told: &mut ValueColumn,
 ) -> Result<(), AllocError>
     requires counts { is_counter job.now ≡ false }
-    requires named { All (IsOfRecord plan.now) names.now }
+    requires named { All (IsOfRecord plan.now) names }
     requires part { row.part < length texts.old.items }
     ensures count { length texts.new.items ≡ length texts.old.items }
     ensures ok { OnOk result (contents texts.new.items
         ≡ slice_set (contents texts.old.items) row.entry.part
         (nth_file (contents texts.old.items) row.entry.part
-        ++ text_of job.now row.entry.key.now (map (value_under job.now (records_of plan.now)) names.now))) }
+        ++ text_of job.now row.entry.key.now (map (value_under job.now (records_of plan.now)) names.entry))) }
 {
     let text = &mut texts[row.part as usize];
     add_text(job, plan, row.key, names, told, text)
@@ -144,26 +147,26 @@ fn name_texts(
     plan: &Plan<'_>,
     rows: &[Row<'_>],
     counts: &[u32],
-    names: &[Name],
+    names: Names<'_>,
     told: &mut ValueColumn,
     texts: &mut Vec<Vec<u8>>,
 ) -> Result<(), AllocError>
     requires counting { is_counter job.now ≡ false }
     requires parts { All (λ r. r.part < length texts.old.items) rows.now }
     requires counts { length counts.now ≡ length rows.now }
-    requires within { row_start counts.now (length rows.now) ≤ length names.now }
+    requires within { row_start counts.now (length rows.now) ≤ length names }
     requires named { (r : ℕ) → r < length rows.now
-        → All (IsOfRecord plan.now) (row_names counts.now names.now r) }
+        → All (IsOfRecord plan.now) (row_names counts.now names r) }
     ensures count { length texts.new.items ≡ length texts.old.items }
     ensures ok { OnOk result ((p : ℕ) → p < length texts.old.items → nth_file (contents texts.new.items) p
         ≡ nth_file (contents texts.old.items) p
-        ++ row_texts (names_text job.now (records_of plan.now) counts.now names.now) p 0 rows.now) }
+        ++ row_texts (names_text job.now (records_of plan.now) counts.now names.entry) p 0 rows.now) }
 {
-    let mut start = 0;
+    let mut left = names;
     for (rank, row) in rows.iter().enumerate() {
-        let end = start + counts[rank] as usize;
-        add_names(job, plan, texts, *row, &names[start..end], told)?;
-        start = end;
+        let (here, behind) = left.split_at(counts[rank] as usize);
+        add_names(job, plan, texts, *row, here, told)?;
+        left = behind;
     }
     Ok(())
 }
@@ -180,27 +183,19 @@ fn fill_texts(
     requires parts { All (λ r. r.part < length texts.old.items) rows.now }
     requires counts { length groups.now.entry_counts.items ≡ length rows.now }
     requires within { row_start groups.now.entry_counts.items (length rows.now)
-        ≤ length groups.now.names.items }
+        ≤ length groups.now.names }
     requires named { (r : ℕ) → r < length rows.now → All (IsOfRecord plan.now)
-        (row_names groups.now.entry_counts.items groups.now.names.items r) }
+        (row_names groups.now.entry_counts.items groups.now.names r) }
     ensures count { length texts.new.items ≡ length texts.old.items }
     ensures ok { OnOk result ((p : ℕ) → p < length texts.old.items → nth_file (contents texts.new.items) p
         ≡ nth_file (contents texts.old.items) p
-        ++ row_texts (names_text job.now (records_of plan.now) groups.now.entry_counts.items groups.now.names.items) p 0 rows.now) }
+        ++ row_texts (names_text job.now (records_of plan.now) groups.now.entry_counts.items groups.now.names) p 0 rows.now) }
 {
     let counts = groups.entry_counts.as_slice();
     if job.counts() {
         count_texts(rows, counts, texts)
     } else {
-        name_texts(
-            job,
-            plan,
-            rows,
-            counts,
-            groups.names.as_slice(),
-            told,
-            texts,
-        )
+        name_texts(job, plan, rows, counts, groups.names.names(), told, texts)
     }
 }
 
@@ -215,13 +210,13 @@ pub(crate) fn texts_of(
     requires parts { All (λ r. r.part < parts) rows.now }
     requires counts { length groups.now.entry_counts.items ≡ length rows.now }
     requires within { row_start groups.now.entry_counts.items (length rows.now)
-        ≤ length groups.now.names.items }
+        ≤ length groups.now.names }
     requires named { (r : ℕ) → r < length rows.now → All (IsOfRecord plan.now)
-        (row_names groups.now.entry_counts.items groups.now.names.items r) }
+        (row_names groups.now.entry_counts.items groups.now.names r) }
     ensures count { IfOk result (λ v. length v.items ≡ parts) }
     ensures texts { IfOk result (λ v. (p : ℕ) → p < parts → nth_file (contents v.items) p
         ≡ row_texts (names_text job.now
-        (records_of plan.now) groups.now.entry_counts.items groups.now.names.items) p 0 rows.now) }
+        (records_of plan.now) groups.now.entry_counts.items groups.now.names) p 0 rows.now) }
 {
     let mut texts = empty_texts(alloc, parts)?;
     let mut told = ValueColumn::new(alloc);

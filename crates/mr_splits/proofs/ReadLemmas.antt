@@ -206,6 +206,15 @@ number-within size files s r some h k =
     let after : List NamedRecord = joined_splits (s + 1) (split_total size files - s - 1) rs in
     omega (arith, k, ap length (around size files s some h), length-append (joined_splits 0 s rs) (mine ++ after), length-append mine after)
 
+-- the records before a split and in it are some of all
+pub split-within : (size : ℕ) (files : List (List ℕ)) (s : ℕ) → 0 < size → s < split_total size files
+    → length (joined_splits 0 s (named_records size files)) + length (of_split s (named_records size files)) ≤ length (named_records size files)
+split-within size files s some h =
+    let rs : List NamedRecord = named_records size files in
+    let mine : List NamedRecord = of_split s rs in
+    let after : List NamedRecord = joined_splits (s + 1) (split_total size files - s - 1) rs in
+    omega (arith, ap length (around size files s some h), length-append (joined_splits 0 s rs) (mine ++ after), length-append mine after)
+
 pub length-listed : (files : List (List ℕ)) (ends : List ℕ) (s at end : ℕ) (rows : List Row) → Tiles at end rows → end ≤ length ends
     → at + length (listed files ends s rows) ≡ end
 unfolding listed

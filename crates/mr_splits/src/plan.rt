@@ -173,6 +173,15 @@ impl<'a> Plan<'a> {
         }
     }
 
+    /// How many records the splits before split `s` have.
+    pub fn first_record(&self, s: u32) -> usize
+        requires { s < split_total self.now.size self.now.files }
+        ensures number { result ≡ length (joined_splits 0 s (records_of self.now)) }
+        ensures within { result + length (of_split s (records_of self.now)) ≤ length (records_of self.now) }
+    {
+        self.table.rows[s as usize].first
+    }
+
     /// The number of record `r` of split `s` among all records of the input, from 0, in order.
     pub fn record_index(&self, s: u32, r: u32) -> usize
         requires split { s < split_total self.now.size self.now.files }

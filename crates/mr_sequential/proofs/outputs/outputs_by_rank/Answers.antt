@@ -18,10 +18,10 @@ texts_of-requires-clause-within c =
     let beside : List Name = names_beside (kept_records c.args.kept.now.skips (records_of c.args.kept.now.cut)) c.args.counts.items in
     let n : ℕ = length c.args.rows.now in
     let told = c.in_ok-groups.ensures in
-    let put : ArePut rs beside n c.in_ok-groups.groups.entry_counts.items c.in_ok-groups.groups.names.items = record { sizes = told.sizes; entries = told.entries } in
+    let put : ArePut rs beside n c.in_ok-groups.groups.entry_counts.items c.in_ok-groups.groups.names = record { sizes = told.sizes; entries = told.entries } in
     omega (
       arith,
-      put-start rs beside n c.in_ok-groups.groups.entry_counts.items c.in_ok-groups.groups.names.items put n (omega arith),
+      put-start rs beside n c.in_ok-groups.groups.entry_counts.items c.in_ok-groups.groups.names put n (omega arith),
       before-total (zip rs beside) n,
       length-zip rs beside c.requires.all,
       told.all,
@@ -34,7 +34,7 @@ texts_of-requires-clause-named c = λ r h.
     let beside : List Name = names_beside (kept_records c.args.kept.now.skips (records_of cut)) c.args.counts.items in
     let n : ℕ = length c.args.rows.now in
     let cs : List ℕ = c.in_ok-groups.groups.entry_counts.items in
-    let names : List Name = c.in_ok-groups.groups.names.items in
+    let names : List Name = c.in_ok-groups.groups.names in
     let told = c.in_ok-groups.ensures in
     let put : ArePut rs beside n cs names = record { sizes = told.sizes; entries = told.entries } in
     let all : All (IsOfRecord cut) beside = names-named cut c.args.kept.now.skips c.args.counts.items c.requires.size in
@@ -48,7 +48,7 @@ returns-clause-texts c = λ p h.
     let rows : List Row = c.args.rows.now in
     let rs : List ℕ = c.args.numbers.items in
     let cs : List ℕ = c.in_ok-groups.groups.entry_counts.items in
-    let names : List Name = c.in_ok-groups.groups.names.items in
+    let names : List Name = c.in_ok-groups.groups.names in
     let told = c.in_ok-groups.ensures in
     let all : List NamedRecord = records_of c.args.kept.now.cut in
     let beside : List Name = names_beside (kept_records c.args.kept.now.skips all) c.args.counts.items in

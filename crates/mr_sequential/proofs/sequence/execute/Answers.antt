@@ -20,7 +20,7 @@ returns-clause-certificate g c =
     let files : List (List ℕ) = c.args.plan.now.files in
     let header = c.in_ok-header.ensures in
     let lengths : c.in_ok-header.header.lengths.items ≡ map length files = header.lengths ∙ ap (map (length {A = ℕ})) c.input-2.ensures in
-    let groups : chunks c.in_ok-texts.groups.group_counts.items (chunks c.in_ok-texts.groups.entry_counts.items c.in_ok-texts.groups.names.items)
+    let groups : chunks c.in_ok-texts.groups.group_counts.items (chunks c.in_ok-texts.groups.entry_counts.items c.in_ok-texts.groups.names)
     ≡ (certificate_of request files c.args.skips.now).groups =
     c.in_ok-texts.ensures.groups ∙ ap (λ (k : Choice). (certificate_of request k.cut.files k.skips).groups) c.in_ok-kept.ensures.ok in
     c.of.ensures ∙ (λ i. record {

@@ -13,6 +13,6 @@ returns-clause-ok c =
     let now : Vec ℕ Global = c.add_text.new.text in
     on_ok_weaker c.add_text.result
     (λ grown. contents-set ts c.args.row.part was now
-    (text_of c.args.job.now c.args.row.key.now (map (value_under c.args.job.now (records_of c.args.plan.now)) c.args.names.now))
+    (text_of c.args.job.now c.args.row.key.now (map (value_under c.args.job.now (records_of c.args.plan.now)) c.args.names))
     c.requires.part c.index_mut-text.ensures.value grown)
     c.add_text.ensures

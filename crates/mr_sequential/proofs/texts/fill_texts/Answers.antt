@@ -14,7 +14,7 @@ returns-then-counts-clause-ok c =
     let all = records_of c.args.plan.now in
     let rows : List Row = c.args.rows.now in
     let cs : List ℕ = c.args.groups.now.entry_counts.items in
-    let names : List Name = c.args.groups.now.names.items in
+    let names : List Name = c.args.groups.now.names in
     let same : (p : ℕ) → row_texts (count_line c.as_slice-counts.result.now) p 0 rows ≡ row_texts (names_text job all cs names) p 0 rows = λ p.
     ap (λ (l : List ℕ). row_texts (count_line l) p 0 rows) c.as_slice-counts.ensures.value
     ∙ counted-texts job all rows cs names p (sym c.counts.ensures ∙ c.if-counts.true) c.requires.within in

@@ -6,8 +6,8 @@ use Rattle.mr_sequential.proofs.texts.name_texts.Given as goal
 
 abbrev pub invariant-loop-rank : goal.invariant-loop-rank
 invariant-loop-rank l = record {
-  start : l.start ≡ row_start l.counts l.rank;
+  left : l.left ≡ drop (row_start l.counts l.rank) l.fn.names;
   count : length l.texts.items ≡ length l.fn.texts.items;
-  texts : (p : ℕ) → p < length l.fn.texts.items → nth_file (contents l.texts.items) p ++ row_texts (names_text l.job (records_of l.plan) l.counts l.names) p l.rank (drop l.rank l.rows)
-      ≡ nth_file (contents l.fn.texts.items) p ++ row_texts (names_text l.job (records_of l.plan) l.counts l.names) p 0 l.rows;
+  texts : (p : ℕ) → p < length l.fn.texts.items → nth_file (contents l.texts.items) p ++ row_texts (names_text l.job (records_of l.plan) l.counts l.fn.names) p l.rank (drop l.rank l.rows)
+      ≡ nth_file (contents l.fn.texts.items) p ++ row_texts (names_text l.job (records_of l.plan) l.counts l.fn.names) p 0 l.rows;
 }
