@@ -4,3 +4,5 @@ pub mod UrlLemmas
 pub mod EmitLemmas
 pub mod EntryLemmas
 pub mod CountLemmas
+pub mod SeamLemmas
+pub mod PieceLemmas

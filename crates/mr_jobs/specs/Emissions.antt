@@ -33,9 +33,13 @@ emissions (LinesWith literal fold) file start line = if holds fold line literal 
 emissions Resources file start line = one_for (url_of line)
 emissions (InvertedIndex keep_case) file start line = map (word_emission (At file start) keep_case line) (word_spans line)
 
--- the words of a text that was folded before, from the place `from` on, each with the value
+-- words of a text that was folded before, each with the value
+abbrev pub words_at : Value → List ℕ → List Span → List Emission
+words_at value text words = map (λ w. (span_bytes text w, value)) words
+
+-- all its words from the place `from` on
 abbrev pub words_from : Value → List ℕ → ℕ → List Emission
-words_from value text from = map (λ w. (span_bytes text w, value)) (word_spans_from from (drop from text))
+words_from value text from = words_at value text (word_spans_from from (drop from text))
 
 -- the value that all pairs of a record have which begins at the place `start` of the file `file`
 abbrev pub value_at : JobSpec → ℕ → ℕ → Value

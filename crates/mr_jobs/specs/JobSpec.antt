@@ -68,6 +68,13 @@ folds_words (LinesWith literal fold) = false
 folds_words Resources = false
 folds_words (InvertedIndex keep_case) = not keep_case
 
+-- the job takes the words of a line
+abbrev pub ReadsWords : JobSpec → Type 0
+ReadsWords (WordCount keep_case) = Unit {0}
+ReadsWords (LinesWith literal fold) = ⊥
+ReadsWords Resources = ⊥
+ReadsWords (InvertedIndex keep_case) = Unit {0}
+
 -- the limits of a request
 abbrev pub PartsFit : ℕ → Type 0
 PartsFit parts = (1 ≤ parts) × (parts ≤ 1024)

@@ -5,20 +5,22 @@
 //!     grep           the line                         one if it contains the literal, or none
 //!     url            the line                         one if it requests a resource, or none
 //!
-//! All pairs of a record have the same value, so an `Emitter` holds a text, a place and a value.
-//! Invariant: the pairs to come are those of the text from the place on.
+//! All pairs of a record have the same value, so an `Emitter` holds a text, a place and a value; and
+//! words of the text that were found before, which come first.
+//! Invariant: the pairs to come are those words, and then those of the text from the place on.
 //! Cost: linear in the line. No memory but the caller's buffer for a folded line.
 //! Source: docs/FORMATS.md, "Jobs"; OSDI 2004, sections 2.1 and 2.3.
 ghost use Rattle.std.specs.Prelude.{◌≡◌, ℕ, ◌≤◌, ◌<◌, ◌^◌, ◌⊎◌, [], ◌∷◌, false, if◌then◌else◌};
 ghost use Rattle.std.specs.Prelude.{IsTrue, OnOk, OnErr, MatchOption, IfSome, IfNone, length};
-ghost use Rattle.std.specs.Prelude.{vec_capacity};
-ghost use Rattle.mr_jobs.specs.Emissions.{emissions, IsReady};
+ghost use Rattle.std.specs.Prelude.{vec_capacity, All};
+ghost use Rattle.mr_jobs.specs.Emissions.{emissions, words_at, IsReady};
+ghost use Rattle.mr_jobs.specs.Pieces.{IsOf};
 ghost use Rattle.mr_jobs.specs.JobSpec.{folds_words};
 
 use crate::job::{Job, Kind};
 use crate::literal::holds;
 use crate::url::url;
-use mr_bytes::Value;
+use mr_bytes::{Span, Value};
 use mr_lanes::{fold_into, next_word};
 use std::alloc::AllocError;
 use std::marker::Model;
@@ -27,20 +29,24 @@ use std::marker::Model;
 #[derive(Drop)]
 pub struct Emitter<'a> {
     text: &'a [u8],
+    words: &'a [Span],
     from: usize,
     value: Value,
     whole: bool,
 }
 
 impl<'a> Model for Emitter<'a> {
-    ghost use Rattle.std.specs.Prelude.{List, length, ◌≤◌, ◌<◌, ◌^◌};
-    ghost use Rattle.mr_jobs.specs.Emissions.{Emission, still_emitted};
+    ghost use Rattle.std.specs.Prelude.{List, All, length, ◌≤◌, ◌<◌, ◌^◌, ◌++◌};
+    ghost use Rattle.mr_jobs.specs.Emissions.{Emission, still_emitted, words_at};
+    ghost use Rattle.mr_jobs.specs.Pieces.{IsOf};
 
     ghost Value = { List Emission };
 
-    ghost view = { λ e. still_emitted e.text.now e.from e.value e.whole };
+    ghost view = { λ e. words_at e.value e.text.now e.words.now
+        ++ still_emitted e.text.now e.from e.value e.whole };
 
     ghost invariant = { λ e. record {
+      words : All (IsOf e.text.now) e.words.now;
       within : e.from ≤ length e.text.now;
       small : length e.text.now ≤ 2 ^ 30;
     } };
@@ -48,15 +54,26 @@ impl<'a> Model for Emitter<'a> {
 
 impl<'a> Emitter<'a> {
     /// The next key with its value, or `None` once nothing is left.
+    #[inline]
     pub fn next(&mut self) -> Option<(&'a [u8], Value)>
         ensures next { MatchOption result (self.old ≡ []) (λ e. self.old ≡ (e.0.now, e.1) ∷ self.new) }
         ensures ended { IfNone result (self.new ≡ []) }
         ensures short { IfSome result (λ e. length e.0.now ≤ 2 ^ 30) }
     {
+        if let Some((word, rest)) = self.words.split_first() {
+            self.words = rest;
+            return Some((
+                &self.text[word.start as usize..word.end as usize],
+                self.value,
+            ));
+        }
         if self.whole {
             self.whole = false;
             self.from = self.text.len();
             return Some((self.text, self.value));
+        }
+        if self.from == self.text.len() {
+            return None;
         }
         let word = next_word(self.text, self.from)?;
         self.from = word.end as usize;
@@ -67,13 +84,29 @@ impl<'a> Emitter<'a> {
     }
 }
 
-fn all_words(text: &[u8], value: Value) -> Emitter<'_>
+pub(crate) fn all_words(text: &[u8], value: Value) -> Emitter<'_>
     requires { length text.now ≤ 2 ^ 30 }
     ensures { result ≡ words_from value text.entry.now 0 }
 {
     Emitter {
         text,
+        words: &[],
         from: 0,
+        value,
+        whole: false,
+    }
+}
+
+#[inline]
+pub(crate) fn some_words<'a>(text: &'a [u8], words: &'a [Span], value: Value) -> Emitter<'a>
+    requires small { length text.now ≤ 2 ^ 30 }
+    requires words { All (IsOf text.now) words.now }
+    ensures { result ≡ words_at value text.entry.now words.entry.now }
+{
+    Emitter {
+        text,
+        words,
+        from: text.len(),
         value,
         whole: false,
     }
@@ -97,6 +130,7 @@ pub(crate) fn nothing(text: &[u8]) -> Emitter<'_>
 {
     Emitter {
         text,
+        words: &[],
         from: text.len(),
         value: Value::One,
         whole: false,
@@ -109,6 +143,7 @@ pub(crate) fn one_pair(key: &[u8], value: Value) -> Emitter<'_>
 {
     Emitter {
         text: key,
+        words: &[],
         from: 0,
         value,
         whole: true,

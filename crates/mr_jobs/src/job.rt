@@ -3,7 +3,7 @@ ghost use Rattle.std.specs.Prelude.{◌≡◌, ◌↔◌, ℕ, ◌≤◌, ◌<�
 ghost use Rattle.std.specs.Prelude.{[], Contains};
 ghost use Rattle.mr_jobs.specs.JobSpec.{WordCount, LinesWith, Resources, InvertedIndex, JobFits};
 ghost use Rattle.mr_jobs.specs.JobSpec.{LiteralFits, counts, has_lines, job_number, row_of};
-ghost use Rattle.mr_jobs.specs.JobSpec.{job_literal};
+ghost use Rattle.mr_jobs.specs.JobSpec.{folds_words, job_literal};
 ghost use Rattle.mr_jobs.specs.Emissions.{value_at};
 
 use mr_bytes::Value;
@@ -182,6 +182,15 @@ impl Job {
                 file,
                 offset: start as u64,
             },
+        }
+    }
+
+    pub(crate) fn folds_words(&self) -> bool
+        ensures { result ≡ folds_words self.now }
+    {
+        match &self.kind {
+            Kind::Words { keep_case } | Kind::Index { keep_case } => !*keep_case,
+            Kind::Grep { .. } | Kind::Url => false,
         }
     }
 

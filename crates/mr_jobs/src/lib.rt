@@ -7,6 +7,7 @@ mod job;
 mod literal;
 mod literal_search;
 mod mapper;
+mod piece;
 mod request;
 mod url;
 
