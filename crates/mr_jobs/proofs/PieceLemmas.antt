@@ -2,7 +2,7 @@
 use Rattle.std.proofs.Common.{◌≡◌, ℕ, ◌+◌, ◌-◌, ◌<◌, ◌≤◌, Bool, true, false, not, cond, List, [], ◌∷◌, ◌++◌, All, length, get_or, take, drop, map, slice_range, refl, sym, ap, ap₂, ◌∙◌, subst, arith, inl, inr, length-append, append_assoc}
 use Rattle.std.specs.List.{AllByRecursion}
 use Rattle.std.proofs.lemmas.Bool.{cases_lt}
-use Rattle.std.proofs.lemmas.List.{take-append-drop, take-append-le, take_all, take-take, drop-drop, drop-take, drop-map, take-map, length-map, length-take, length-drop, get_or-drop, get_or-map, get_or_append_left, get_or_default, append-nil}
+use Rattle.std.proofs.lemmas.List.{take-append-drop, take-append-le, take_all, take-take, drop-drop, drop-take, drop-map, take-map, length-map, length-take, length-drop, get_or-drop, get_or-map, get_or_append_left, get_or-take}
 use Rattle.std.proofs.lemmas.List.Folds.{drop_split}
 use Rattle.std.proofs.lemmas.List.Elements.{All-from_recursion}
 use Rattle.std.proofs.Math.Seq.{get_or-append_right, take-append_seam, drop-append_seam}
@@ -10,6 +10,7 @@ use Rattle.mr_bytes.specs.Bytes.{is_word_byte, fold_byte, folded}
 use Rattle.mr_bytes.specs.Words.{word_spans, word_spans_from, span_bytes}
 use Rattle.mr_bytes.specs.declared.Span.{Span}
 use Rattle.mr_bytes.specs.declared.Value.{Value}
+use Rattle.mr_bytes.specs.declared.Value.TheVariants.{One, At}
 use Rattle.mr_jobs.specs.Emissions.{emissions, words_at, words_from, value_at}
 use Rattle.mr_jobs.specs.JobSpec.{JobSpec, WordCount, LinesWith, Resources, InvertedIndex, ReadsWords, folds_words}
 use Rattle.mr_jobs.specs.Pieces.{IsCut, IsOf, IsPart, IsSeam, PieceSpec, read_as, start_at}
@@ -160,3 +161,61 @@ line-keys value text at end order within =
 size-read : (folds : Bool) (bytes : List ℕ) → length (read_as folds bytes) ≡ length bytes
 size-read true bytes = length-map bytes fold_byte
 size-read false bytes = refl
+
+word-read : (folds : Bool) (bytes : List ℕ) (k : ℕ) → k < length bytes → is_word_byte (get_or (read_as folds bytes) k 0) ≡ is_word_byte (get_or bytes k 0)
+word-read true bytes k less = ap is_word_byte (get_or-map fold_byte bytes k 0 0 less) ∙ word_byte-folded (get_or bytes k 0)
+word-read false bytes k less = refl
+
+-- a byte of a part, as it is read, is a word byte where the byte of the text is
+word-of-part : (folds : Bool) (text : List ℕ) (from n k : ℕ) → k < n → from + n ≤ length text
+    → is_word_byte (get_or (read_as folds (slice_range text from (from + n))) k 0) ≡ is_word_byte (get_or text (from + k) 0)
+word-of-part folds text from n k less within =
+    let size : from + n - from ≡ n = omega arith in
+    let part : List ℕ = slice_range text from (from + n) in
+    let long : k < length part = omega (arith, length-take (from + n - from) (drop from text), length-drop from text, less, within) in
+    word-read folds part k long
+    ∙ ap is_word_byte (get_or-take (from + n - from) (drop from text) k 0 (omega (arith, size, less)) ∙ get_or-drop from text k 0)
+
+pub seam-of-part : (folds : Bool) (text : List ℕ) (from n k : ℕ) → from + n ≤ length text → IsSeam text (from + k) → IsSeam (read_as folds (slice_range text from (from + n))) k
+seam-of-part folds text from n k within seam =
+    λ some less word.
+        let part : List ℕ = slice_range text from (from + n) in
+        let inside : k < n = omega (arith, less, size-read folds part, length-take (from + n - from) (drop from text), length-drop from text, within) in
+        let before : from + (k - 1) ≡ from + k - 1 = omega (arith, some) in
+        word-of-part folds text from n k inside within
+        ∙ seam (omega (arith, some)) (omega (arith, inside, within))
+            (ap (λ i. is_word_byte (get_or text i 0)) (sym before) ∙ (sym (word-of-part folds text from n (k - 1) (omega (arith, inside)) within) ∙ word))
+
+slice-of-slice : (text : List ℕ) (from n a b : ℕ) → a ≤ b → b ≤ n → slice_range (slice_range text from (from + n)) a b ≡ slice_range text (from + a) (from + b)
+slice-of-slice text from n a b order within =
+    let rest : List ℕ = drop from text in
+    let whole : from + n - from ≡ a + (n - a) = omega (arith, order, within) in
+    let size : b - a ≡ from + b - (from + a) = omega (arith, order) in
+    ap (λ k. take (b - a) (drop a (take k rest))) whole
+    ∙ ap (take (b - a)) (drop-take a (n - a) rest)
+    ∙ take-take (b - a) (n - a) (drop a rest) (omega (arith, within))
+    ∙ ap₂ take size (drop-drop a from text)
+
+slice-read : (folds : Bool) (bytes : List ℕ) (a b : ℕ) → slice_range (read_as folds bytes) a b ≡ read_as folds (slice_range bytes a b)
+slice-read true bytes a b = ap (take (b - a)) (drop-map fold_byte a bytes) ∙ take-map fold_byte (b - a) (drop a bytes)
+slice-read false bytes a b = refl
+
+-- the words of a line of a piece are those of its bytes, as they are read
+pub line-of-part : (folds : Bool) (text piece : List ℕ) (from n a b start end : ℕ) (value : Value) → piece ≡ read_as folds (slice_range text from (from + n)) → from + n ≤ length text
+    → a ≤ b → b ≤ n → from + a ≡ start → from + b ≡ end
+    → words_at value piece (word_spans_from a (slice_range piece a b)) ≡ words_from value (read_as folds (slice_range text start end)) 0
+line-of-part folds text piece from n a b start end value is within order inside begin finish =
+    let part : List ℕ = slice_range text from (from + n) in
+    let size : length piece ≡ n = omega (arith, ap length is, size-read folds part, length-take (from + n - from) (drop from text), length-drop from text, within) in
+    let line : slice_range piece a b ≡ read_as folds (slice_range text start end) =
+    ap (λ (l : List ℕ). slice_range l a b) is ∙ slice-read folds part a b ∙ ap (read_as folds) (slice-of-slice text from n a b order inside ∙ ap₂ (slice_range text) begin finish) in
+    line-keys value piece a b order (omega (arith, size, inside)) ∙ ap (λ (l : List ℕ). words_from value l 0) line
+
+-- what a job emits that reads words
+pub reads-emitted : (job : JobSpec) (file start : ℕ) (line : List ℕ) → ReadsWords job → words_from (value_at job file start) (read_as (folds_words job) line) 0 ≡ emissions job file start line
+reads-emitted (WordCount true) file start line is = refl
+reads-emitted (WordCount false) file start line is = words_from-folded One line
+reads-emitted (LinesWith literal fold) file start line is = absurd is
+reads-emitted Resources file start line is = absurd is
+reads-emitted (InvertedIndex true) file start line is = refl
+reads-emitted (InvertedIndex false) file start line is = words_from-folded (At file start) line

@@ -1,5 +1,5 @@
 -- Pieces of files with their words, and the places in a text that no word runs over.
-use Rattle.std.specs.Prelude.{◌≡◌, ℕ, ◌+◌, ◌-◌, ◌<◌, ◌≤◌, Bool, true, false, if◌then◌else◌, List, length, slice_range, slice_index, slice_index_or}
+use Rattle.std.specs.Prelude.{◌≡◌, ℕ, ◌+◌, ◌-◌, ◌<◌, ◌≤◌, ◌^◌, All, Bool, true, false, if◌then◌else◌, List, length, slice_range, slice_index, slice_index_or}
 use Rattle.mr_bytes.specs.Bytes.{folded, is_word_byte}
 use Rattle.mr_bytes.specs.Words.{word_spans}
 use Rattle.mr_bytes.specs.declared.Span.{Span}
@@ -45,6 +45,12 @@ pub record IsCut (words : List Span) (at k : ℕ) : Type 0 where
 -- the word stands in the text
 abbrev pub IsOf : List ℕ → Span → Type 0
 IsOf text w = (w.start ≤ w.end) × (w.end ≤ length text)
+
+-- words of a text, and a place in it
+pub record FitsText (text : List ℕ) (words : List Span) (from : ℕ) : Type 0 where
+  pub inside : All (IsOf text) words
+  pub within : from ≤ length text
+  pub small : length text ≤ 2 ^ 30
 
 -- the piece has the bytes of the file from `start` to before `end`, and no word runs over these places
 pub record HasLine (piece : PieceSpec) (file start end : ℕ) : Type 0 where

@@ -13,12 +13,13 @@
 ghost use Rattle.std.specs.Prelude.{◌≡◌, ℕ, ◌≤◌, ◌<◌, ◌^◌, ◌⊎◌, [], ◌∷◌, false, if◌then◌else◌};
 ghost use Rattle.std.specs.Prelude.{IsTrue, OnOk, OnErr, MatchOption, IfSome, IfNone, length};
 ghost use Rattle.std.specs.Prelude.{vec_capacity, All};
-ghost use Rattle.mr_jobs.specs.Emissions.{emissions, words_at, IsReady};
-ghost use Rattle.mr_jobs.specs.Pieces.{IsOf};
+ghost use Rattle.mr_jobs.specs.Emissions.{emissions, IsReady};
+ghost use Rattle.mr_jobs.specs.Pairs.{pairs_of};
 ghost use Rattle.mr_jobs.specs.JobSpec.{folds_words};
 
 use crate::job::{Job, Kind};
 use crate::literal::holds;
+use crate::pairs::LinePairs;
 use crate::url::url;
 use mr_bytes::{Span, Value};
 use mr_lanes::{fold_into, next_word};
@@ -50,6 +51,22 @@ impl<'a> Model for Emitter<'a> {
       within : e.from ≤ length e.text.now;
       small : length e.text.now ≤ 2 ^ 30;
     } };
+}
+
+impl<'a> LinePairs<'a> {
+    /// These pairs, one after another.
+    #[inline]
+    pub fn emitter(self) -> Emitter<'a>
+        ensures { result ≡ pairs_of self.entry }
+    {
+        Emitter {
+            text: self.text,
+            words: self.words,
+            from: self.from,
+            value: self.value,
+            whole: self.whole,
+        }
+    }
 }
 
 impl<'a> Emitter<'a> {
@@ -84,69 +101,15 @@ impl<'a> Emitter<'a> {
     }
 }
 
-pub(crate) fn all_words(text: &[u8], value: Value) -> Emitter<'_>
-    requires { length text.now ≤ 2 ^ 30 }
-    ensures { result ≡ words_from value text.entry.now 0 }
-{
-    Emitter {
-        text,
-        words: &[],
-        from: 0,
-        value,
-        whole: false,
-    }
-}
-
-#[inline]
-pub(crate) fn some_words<'a>(text: &'a [u8], words: &'a [Span], value: Value) -> Emitter<'a>
-    requires small { length text.now ≤ 2 ^ 30 }
-    requires words { All (IsOf text.now) words.now }
-    ensures { result ≡ words_at value text.entry.now words.entry.now }
-{
-    Emitter {
-        text,
-        words,
-        from: text.len(),
-        value,
-        whole: false,
-    }
-}
-
-fn words_of<'a>(keep_case: bool, line: &'a [u8], buffer: &'a [u8], value: Value) -> Emitter<'a>
+fn words_of<'a>(keep_case: bool, line: &'a [u8], buffer: &'a [u8], value: Value) -> LinePairs<'a>
     requires line { length line.now ≤ 2 ^ 30 }
     requires buffer { keep_case ≡ false → length buffer.now ≤ 2 ^ 30 }
-    ensures { result ≡ words_from value (if keep_case then line.entry.now else buffer.entry.now) 0 }
+    ensures { pairs_of result ≡ words_from value (if keep_case then line.entry.now else buffer.entry.now) 0 }
 {
     if keep_case {
-        all_words(line, value)
+        LinePairs::all_words(line, value)
     } else {
-        all_words(buffer, value)
-    }
-}
-
-pub(crate) fn nothing(text: &[u8]) -> Emitter<'_>
-    requires { length text.now ≤ 2 ^ 30 }
-    ensures { result ≡ [] }
-{
-    Emitter {
-        text,
-        words: &[],
-        from: text.len(),
-        value: Value::One,
-        whole: false,
-    }
-}
-
-pub(crate) fn one_pair(key: &[u8], value: Value) -> Emitter<'_>
-    requires { length key.now ≤ 2 ^ 30 }
-    ensures { result ≡ (key.entry.now, value) ∷ [] }
-{
-    Emitter {
-        text: key,
-        words: &[],
-        from: 0,
-        value,
-        whole: true,
+        LinePairs::all_words(buffer, value)
     }
 }
 
@@ -179,6 +142,20 @@ impl Job {
         requires ready { IsReady self.now line.now buffer.now }
         ensures { result ≡ emissions self.now file start line.entry.now }
     {
+        self.pairs(file, start, line, buffer).emitter()
+    }
+
+    pub(crate) fn pairs<'a>(
+        &self,
+        file: u32,
+        start: u32,
+        line: &'a [u8],
+        buffer: &'a [u8],
+    ) -> LinePairs<'a>
+        requires small { length line.now ≤ 2 ^ 30 }
+        requires ready { IsReady self.now line.now buffer.now }
+        ensures { pairs_of result ≡ emissions self.now file start line.entry.now }
+    {
         match &self.kind {
             Kind::Words { keep_case } => words_of(*keep_case, line, buffer, Value::One),
             Kind::Index { keep_case } => words_of(
@@ -192,7 +169,7 @@ impl Job {
             ),
             Kind::Grep { literal, fold } => {
                 if holds(line, literal.as_slice(), *fold) {
-                    one_pair(
+                    LinePairs::one_pair(
                         line,
                         Value::At {
                             file,
@@ -200,12 +177,12 @@ impl Job {
                         },
                     )
                 } else {
-                    nothing(line)
+                    LinePairs::nothing(line)
                 }
             }
             Kind::Url => match url(line) {
-                Some(key) => one_pair(key, Value::One),
-                None => nothing(line),
+                Some(key) => LinePairs::one_pair(key, Value::One),
+                None => LinePairs::nothing(line),
             },
         }
     }

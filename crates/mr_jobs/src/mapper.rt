@@ -1,6 +1,6 @@
 //! Maps the lines of an input, one after another. It reads a file by pieces and not by lines.
 //!
-//!     (file, start, line)  ->  Mapper  ->  Emitter: what `Job::emit` gives for the line
+//!     (file, start, line)  ->  Mapper  ->  LinePairs: what `Job::emit` gives for the line
 //!
 //! The words of many lines are found at once, by lanes (`piece.rt`). Most lines lack the literal,
 //! and one search over a file finds the few that have it (`literal_search.rt`); the mapper keeps
@@ -11,10 +11,11 @@
 ghost use Rattle.std.specs.Prelude.{◌≡◌, ◌≤◌, ◌<◌, ◌+◌, ◌^◌, IfOk, length};
 ghost use Rattle.mr_jobs.specs.Emissions.{emissions};
 ghost use Rattle.mr_jobs.specs.Hits.{IsLine};
+ghost use Rattle.mr_jobs.specs.Pairs.{pairs_of};
 
-use crate::emitter::{Emitter, nothing, one_pair};
 use crate::job::{Job, Kind};
 use crate::literal_search::LiteralSearch;
+use crate::pairs::LinePairs;
 use crate::piece::WordPiece;
 use mr_bytes::Value;
 use mr_input::Input;
@@ -77,7 +78,7 @@ impl<'j, 'i> Mapper<'j, 'i> {
         self.job
     }
 
-    /// What `Job::emit` returns for the line, of at most 1 GiB, at place `start` of file `file`.
+    /// The pairs that `Job::emit` tells of the line, of at most 1 GiB, at place `start` of file `file`.
     /// Lines may come in any order; all lines in order take time linear in the input's length.
     /// Fails only for want of memory, and another try may then succeed.
     #[inline]
@@ -86,11 +87,11 @@ impl<'j, 'i> Mapper<'j, 'i> {
         file: u32,
         start: u32,
         line: &'l [u8],
-    ) -> Result<Emitter<'l>, AllocError>
+    ) -> Result<LinePairs<'l>, AllocError>
         requires small { length line.now ≤ 2 ^ 30 }
         requires line { IsLine self.old.files file start line.now }
         ensures* same { sem 𝓛 (KeepsSource self.entry) }
-        ensures emissions { IfOk result (λ e. e ≡ emissions self.old.job file start line.entry.now) }
+        ensures emissions { IfOk result (λ e. pairs_of e ≡ emissions self.old.job file start line.entry.now) }
     {
         let job = self.job;
         let from = start as usize;
@@ -100,7 +101,7 @@ impl<'j, 'i> Mapper<'j, 'i> {
                 self.piece.ready(file, text, from, from + line.len())?;
                 return Ok(self.piece.emit(job.value_at(file, start)));
             }
-            Kind::Url => return Ok(job.emit(file, start, line, line)),
+            Kind::Url => return Ok(job.pairs(file, start, line, line)),
             Kind::Grep { literal, fold } => (literal.as_slice(), *fold),
         };
         if self.file != file {
@@ -109,9 +110,9 @@ impl<'j, 'i> Mapper<'j, 'i> {
             self.file = file;
         }
         if !self.hits.hold(from, from + line.len()) {
-            return Ok(nothing(line));
+            return Ok(LinePairs::nothing(line));
         }
-        Ok(one_pair(
+        Ok(LinePairs::one_pair(
             line,
             Value::At {
                 file,

@@ -15,9 +15,10 @@ ghost use Rattle.std.specs.Prelude.{◌≡◌, ℕ, ◌+◌, ◌-◌, ◌≤◌,
 ghost use Rattle.std.specs.Prelude.{if◌then◌else◌, [], length, slice_range};
 ghost use Rattle.mr_bytes.specs.Words.{word_spans, word_spans_from};
 ghost use Rattle.mr_jobs.specs.Emissions.{words_at};
+ghost use Rattle.mr_jobs.specs.Pairs.{pairs_of};
 ghost use Rattle.mr_jobs.specs.Pieces.{HasLine, IsCut, IsLineOf, IsPart, IsSeam, read_as, start_at};
 
-use crate::emitter::{Emitter, all_words, some_words};
+use crate::pairs::LinePairs;
 use mr_bytes::{Span, Value, is_word_byte};
 use mr_lanes::{fold_into, word_spans};
 use std::alloc::{AllocError, Global};
@@ -268,13 +269,13 @@ impl WordPiece {
 
     /// The words of the line, each with the value.
     #[inline]
-    pub(crate) fn emit(&self, value: Value) -> Emitter<'_>
-        ensures { result ≡ words_at value self.now.text self.now.line }
+    pub(crate) fn emit(&self, value: Value) -> LinePairs<'_>
+        ensures { pairs_of result ≡ words_at value self.now.text self.now.line }
     {
         if self.listed {
-            some_words(self.text.as_slice(), &self.words[self.first..self.last], value)
+            LinePairs::some_words(self.text.as_slice(), &self.words[self.first..self.last], value)
         } else {
-            all_words(self.text.as_slice(), value)
+            LinePairs::all_words(self.text.as_slice(), value)
         }
     }
 }
