@@ -160,7 +160,6 @@ impl Pairs {
         &mut self,
         mapper: &mut Mapper<'_, '_>,
         line: RecordAt<'_>,
-        buffer: &mut Vec<u8>,
     ) -> Result<(), AllocError>
         requires sound { Sound self.old }
         requires small { length line.bytes.now ≤ 2 ^ 30 }
@@ -172,8 +171,8 @@ impl Pairs {
         ensures pairs { OnOk result (pairs_seen self.new ≡ pairs_seen self.old
             ++ emissions mapper.old.job line.entry.file line.entry.start line.entry.bytes.now) }
     {
-        mapper.job().fold_line(line.bytes, buffer)?;
-        self.push_all(mapper.emit(line.file, line.start, line.bytes, buffer.as_slice()))
+        let pairs = mapper.emit(line.file, line.start, line.bytes)?;
+        self.push_all(pairs.emitter())
     }
 }
 

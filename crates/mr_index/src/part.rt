@@ -143,8 +143,6 @@ impl Room {
 pub(crate) struct Mapping<'a> {
     pub mapper: Mapper<'a, 'a>,
     pub mapped: u64,
-    /// For folded records.
-    buffer: Vec<u8>,
     pace: Throttle,
 }
 
@@ -154,9 +152,8 @@ impl<'a> Mapping<'a> {
         ensures none { result.mapped ≡ 0 }
     {
         Mapping {
-            mapper: job.mapper(plan.input()),
+            mapper: job.mapper(alloc, plan.input()),
             mapped: 0,
-            buffer: Vec::new(alloc),
             pace: Throttle::new(Phase::Mapping, plan.count() as u64),
         }
     }
@@ -238,8 +235,7 @@ impl Tables {
         ensures err { OnErr result (mapping.new.mapped ≡ mapping.old.mapped) }
     {
         let before = self.pairs.len();
-        self.pairs
-            .map(&mut mapping.mapper, line, &mut mapping.buffer)?;
+        self.pairs.map(&mut mapping.mapper, line)?;
         self.make_room(before)?;
         self.end_record(number, before)?;
         mapping.mapped += 1;

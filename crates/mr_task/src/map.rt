@@ -222,15 +222,14 @@ fn take_records<D: Cancellation>(
     let split = runs.split;
     // This shows the plan's size to be at least 1, by which names rise.
     let _size = plan.size();
-    let mut folded = Vec::new(runs.alloc);
-    let mut mapper = records.job.mapper(plan.input());
+    let mut mapper = records.job.mapper(runs.alloc, plan.input());
     let count = plan.records_in(split);
     let mut next = from;
     while next < count && (next - from < least || !runs.has_run() && demand.is_wanted()) {
         let line = plan.locate(split, next);
         if !has(left_out, next) {
             let name = RecordName { split, rec: next };
-            runs.take_record(&mut mapper, name, line, &mut folded)?;
+            runs.take_record(&mut mapper, name, line)?;
         }
         next += 1;
     }

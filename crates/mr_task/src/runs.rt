@@ -129,7 +129,6 @@ impl Runs {
         mapper: &mut Mapper<'_, '_>,
         number: RecordName,
         line: RecordAt<'_>,
-        folded: &mut Vec<u8>,
     ) -> Result<(), AllocError>
         requires some { 0 < self.old.sealed.parts }
         requires own { AreOf self.old.split self.old.buffer.pairs }
@@ -144,8 +143,9 @@ impl Runs {
         ensures taken { OnOk result (Takes
             (placed_from number 0 (emissions mapper.old.job line.entry.file line.entry.start line.entry.bytes.now)) self.old self.new) }
     {
-        mapper.job().fold_line(line.bytes, folded)?;
-        let mut emitter = mapper.emit(line.file, line.start, line.bytes, folded.as_slice());
+        let mut emitter = mapper
+            .emit(line.file, line.start, line.bytes)?
+            .emitter();
         let mut place = 0;
         while let Some((key, value)) = emitter.next() {
             let name = Name {
