@@ -1,19 +1,18 @@
 -- The words of a line among those of a piece.
-use Rattle.std.proofs.Common.{◌≡◌, ℕ, ◌+◌, ◌-◌, ◌<◌, ◌≤◌, Bool, true, false, not, cond, List, [], ◌∷◌, ◌++◌, All, length, get_or, take, drop, map, slice_range, refl, sym, ap, ap₂, ◌∙◌, subst, arith, inl, inr, length-append, append_assoc}
+use Rattle.std.proofs.Common.{◌≡◌, ℕ, ◌+◌, ◌-◌, ◌<◌, ◌≤◌, Bool, true, false, List, [], ◌∷◌, ◌++◌, All, length, get_or, take, drop, map, slice_range, refl, sym, ap, ap₂, ◌∙◌, subst, arith, inl, inr, length-append, append_assoc}
 use Rattle.std.specs.List.{AllByRecursion}
 use Rattle.std.proofs.lemmas.Bool.{cases_lt}
-use Rattle.std.proofs.lemmas.List.{take-append-drop, take-append-le, take_all, take-take, drop-drop, drop-take, drop-map, take-map, length-map, length-take, length-drop, get_or-drop, get_or-map, get_or_append_left, get_or-take}
-use Rattle.std.proofs.lemmas.List.Folds.{drop_split}
+use Rattle.std.proofs.lemmas.List.{take-append-drop, take-take, drop-drop, drop-take, drop-map, take-map, length-map, length-take, length-drop, get_or-drop, get_or-map, get_or_append_left, get_or-take}
 use Rattle.std.proofs.lemmas.List.Elements.{All-from_recursion}
 use Rattle.std.proofs.Math.Seq.{get_or-append_right, take-append_seam, drop-append_seam}
-use Rattle.mr_bytes.specs.Bytes.{is_word_byte, fold_byte, folded}
+use Rattle.mr_bytes.specs.Bytes.{is_word_byte, fold_byte}
 use Rattle.mr_bytes.specs.Words.{word_spans, word_spans_from, span_bytes}
 use Rattle.mr_bytes.specs.declared.Span.{Span}
 use Rattle.mr_bytes.specs.declared.Value.{Value}
 use Rattle.mr_bytes.specs.declared.Value.TheVariants.{One, At}
 use Rattle.mr_jobs.specs.Emissions.{emissions, words_at, words_from, value_at}
 use Rattle.mr_jobs.specs.JobSpec.{JobSpec, WordCount, LinesWith, Resources, InvertedIndex, ReadsWords, folds_words}
-use Rattle.mr_jobs.specs.Pieces.{IsCut, IsOf, IsPart, IsSeam, PieceSpec, read_as, start_at}
+use Rattle.mr_jobs.specs.Pieces.{IsCut, IsOf, IsSeam, read_as, start_at}
 use Rattle.mr_jobs.proofs.EmitLemmas.{words_from-folded, word_byte-folded}
 use Rattle.mr_jobs.proofs.SeamLemmas.{AreApart, IsInside, words-apart, apart-at, words-inside, words-within, words-shift, shifted}
 
@@ -90,11 +89,11 @@ seam-behind : (text : List ℕ) (at end : ℕ) → at ≤ end → IsSeam text en
 seam-behind text at end order seam =
     apart-at (drop at text) (end - at)
     (λ some less word.
-        let place : at + (end - at) ≡ end = omega (arith, order) in
-        let before : at + (end - at - 1) ≡ end - 1 = omega (arith, order, some) in
-        let here : get_or (drop at text) (end - at) 0 ≡ get_or text end 0 = get_or-drop at text (end - at) 0 ∙ ap (λ n. get_or text n 0) place in
-        let left : get_or (drop at text) (end - at - 1) 0 ≡ get_or text (end - 1) 0 = get_or-drop at text (end - at - 1) 0 ∙ ap (λ n. get_or text n 0) before in
-        ap is_word_byte here ∙ seam (omega (arith, some)) (omega (arith, less, length-drop at text, order, some)) (sym (ap is_word_byte left) ∙ word))
+    let place : at + (end - at) ≡ end = omega (arith, order) in
+    let before : at + (end - at - 1) ≡ end - 1 = omega (arith, order, some) in
+    let here : get_or (drop at text) (end - at) 0 ≡ get_or text end 0 = get_or-drop at text (end - at) 0 ∙ ap (λ n. get_or text n 0) place in
+    let left : get_or (drop at text) (end - at - 1) 0 ≡ get_or text (end - 1) 0 = get_or-drop at text (end - at - 1) 0 ∙ ap (λ n. get_or text n 0) before in
+    ap is_word_byte here ∙ seam (omega (arith, some)) (omega (arith, less, length-drop at text, order, some)) (sym (ap is_word_byte left) ∙ word))
 
 pub line-words : (text : List ℕ) (at end first last : ℕ) → at ≤ end → end ≤ length text → IsSeam text at → IsSeam text end
     → IsCut (word_spans text) at first → IsCut (word_spans text) end last
@@ -179,12 +178,12 @@ word-of-part folds text from n k less within =
 pub seam-of-part : (folds : Bool) (text : List ℕ) (from n k : ℕ) → from + n ≤ length text → IsSeam text (from + k) → IsSeam (read_as folds (slice_range text from (from + n))) k
 seam-of-part folds text from n k within seam =
     λ some less word.
-        let part : List ℕ = slice_range text from (from + n) in
-        let inside : k < n = omega (arith, less, size-read folds part, length-take (from + n - from) (drop from text), length-drop from text, within) in
-        let before : from + (k - 1) ≡ from + k - 1 = omega (arith, some) in
-        word-of-part folds text from n k inside within
-        ∙ seam (omega (arith, some)) (omega (arith, inside, within))
-            (ap (λ i. is_word_byte (get_or text i 0)) (sym before) ∙ (sym (word-of-part folds text from n (k - 1) (omega (arith, inside)) within) ∙ word))
+    let part : List ℕ = slice_range text from (from + n) in
+    let inside : k < n = omega (arith, less, size-read folds part, length-take (from + n - from) (drop from text), length-drop from text, within) in
+    let before : from + (k - 1) ≡ from + k - 1 = omega (arith, some) in
+    word-of-part folds text from n k inside within
+    ∙ seam (omega (arith, some)) (omega (arith, inside, within))
+    (ap (λ i. is_word_byte (get_or text i 0)) (sym before) ∙ (sym (word-of-part folds text from n (k - 1) (omega (arith, inside)) within) ∙ word))
 
 slice-of-slice : (text : List ℕ) (from n a b : ℕ) → a ≤ b → b ≤ n → slice_range (slice_range text from (from + n)) a b ≡ slice_range text (from + a) (from + b)
 slice-of-slice text from n a b order within =

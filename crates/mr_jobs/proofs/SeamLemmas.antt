@@ -1,5 +1,5 @@
 -- The words of a text are those of its parts, where no word runs over the seam; and how they move with their text.
-use Rattle.std.proofs.Common.{◌≡◌, ℕ, ◌+◌, ◌-◌, ◌<◌, ◌≤◌, Bool, true, false, cond, eqb, List, [], ◌∷◌, ◌++◌, length, get_or, take, drop, map, slice_range, refl, sym, ap, ap₂, ◌∙◌, subst, arith, zero, suc, inl, inr, eq-eqb}
+use Rattle.std.proofs.Common.{◌≡◌, ℕ, ◌+◌, ◌-◌, ◌<◌, ◌≤◌, Bool, true, false, cond, eqb, List, [], ◌∷◌, ◌++◌, length, get_or, take, drop, map, refl, sym, ap, ap₂, ◌∙◌, subst, arith, zero, suc, inl, inr, eq-eqb}
 use Rattle.std.proofs.lemmas.Bool.{ne_eqb, cases_eq}
 use Rattle.std.specs.List.{AllByRecursion}
 use Rattle.mr_bytes.specs.Bytes.{is_word_byte}
@@ -75,8 +75,8 @@ apart-at (x ∷ []) (suc (suc at)) h = λ word. tt
 apart-at (x ∷ y ∷ ys) (suc (suc at)) h =
     apart-at (y ∷ ys) (suc at)
     (λ some less word.
-        h (omega arith) (omega (arith, less))
-        (ap (λ n. is_word_byte (get_or (x ∷ y ∷ ys) n 0)) (let e : suc (suc at) - 1 ≡ suc (suc at - 1) = omega arith in e) ∙ word))
+    h (omega arith) (omega (arith, less))
+    (ap (λ n. is_word_byte (get_or (x ∷ y ∷ ys) n 0)) (let e : suc (suc at) - 1 ≡ suc (suc at - 1) = omega arith in e) ∙ word))
 
 -- ---- where words stand
 abbrev pub IsInside : ℕ → ℕ → Span → Type 0

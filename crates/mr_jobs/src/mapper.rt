@@ -46,8 +46,8 @@ impl<'j, 'i> Model for Mapper<'j, 'i> {
 
     ghost invariant = { λ m. record {
       hits : (literal : List ℕ) (fold : Bool) → m.job.now ≡ LinesWith literal fold
-        → m.file < length m.input.now
-        → m.hits ≡ record { text = nth_file m.input.now m.file; literal = literal; fold = fold };
+          → m.file < length m.input.now
+          → m.hits ≡ record { text = nth_file m.input.now m.file; literal = literal; fold = fold };
       folds : m.piece.folds ≡ folds_words m.job.now;
       piece : m.piece.file < length m.input.now → IsPart (nth_file m.input.now m.piece.file) m.piece;
     } };

@@ -4,9 +4,9 @@
 //!     from     then those of the text from this place on; or, if `whole`, the text itself
 //!
 //! All pairs have the same value.
-use mr_bytes::{Span, Value};
-
 ghost use Rattle.mr_jobs.specs.Pieces.{FitsText};
+
+use mr_bytes::{Span, Value};
 
 /// The pairs of a line. They borrow what they are read from, and `emitter` tells one after another.
 #[derive(Drop)]

@@ -53,9 +53,14 @@ impl Model for WordPiece {
 
     ghost Value = { PieceSpec };
 
-    ghost view = { λ p. record { folds = p.folds; file = p.file; from = p.from; text = p.text.items;
-        listed = p.listed;
-        line = words_in p.listed p.text.items p.first p.last } };
+    ghost view = { λ p. record {
+      folds = p.folds;
+      file = p.file;
+      from = p.from;
+      text = p.text.items;
+      listed = p.listed;
+      line = words_in p.listed p.text.items p.first p.last;
+    } };
 
     ghost invariant = { λ p. record {
       words : p.listed ≡ true → p.words.items ≡ word_spans p.text.items;
@@ -232,7 +237,13 @@ impl WordPiece {
     /// Makes the line the one from `start` to before `end` of the file, whose bytes are `text`.
     /// Fails only for want of memory.
     #[inline]
-    pub(crate) fn ready(&mut self, file: u32, text: &[u8], start: usize, end: usize) -> Result<(), AllocError>
+    pub(crate) fn ready(
+        &mut self,
+        file: u32,
+        text: &[u8],
+        start: usize,
+        end: usize,
+    ) -> Result<(), AllocError>
         requires order { start ≤ end }
         requires within { end ≤ length text.now }
         requires small { length text.now ≤ 2 ^ 30 }
@@ -273,7 +284,11 @@ impl WordPiece {
         ensures { pairs_of result ≡ words_at value self.now.text self.now.line }
     {
         if self.listed {
-            LinePairs::some_words(self.text.as_slice(), &self.words[self.first..self.last], value)
+            LinePairs::some_words(
+                self.text.as_slice(),
+                &self.words[self.first..self.last],
+                value,
+            )
         } else {
             LinePairs::all_words(self.text.as_slice(), value)
         }

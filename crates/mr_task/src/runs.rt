@@ -143,9 +143,7 @@ impl Runs {
         ensures taken { OnOk result (Takes
             (placed_from number 0 (emissions mapper.old.job line.entry.file line.entry.start line.entry.bytes.now)) self.old self.new) }
     {
-        let mut emitter = mapper
-            .emit(line.file, line.start, line.bytes)?
-            .emitter();
+        let mut emitter = mapper.emit(line.file, line.start, line.bytes)?.emitter();
         let mut place = 0;
         while let Some((key, value)) = emitter.next() {
             let name = Name {

@@ -1,9 +1,9 @@
-use Rattle.std.proofs.Common.{◌≡◌, ◌+◌, ◌∙◌, ℕ, List, Bool, length, ap, ap₂, sym, subst, refl, inl, inr}
+use Rattle.std.proofs.Common.{◌≡◌, ◌+◌, ◌∙◌, ℕ, List, length, ap, ap₂, sym, subst, refl, inl, inr}
 use Rattle.std.specs.Prelude.{slice_range}
 use Rattle.mr_bytes.specs.declared.Value.{Value}
 use Rattle.mr_input.specs.Files.{nth_file}
-use Rattle.mr_jobs.specs.Emissions.{emissions, words_from, value_at}
-use Rattle.mr_jobs.specs.JobSpec.{JobSpec, ReadsWords, folds_words}
+use Rattle.mr_jobs.specs.Emissions.{emissions, words_from}
+use Rattle.mr_jobs.specs.JobSpec.{JobSpec, ReadsWords}
 use Rattle.mr_jobs.specs.Pieces.{read_as}
 use Rattle.mr_jobs.specs.Hits.{Source}
 use Rattle.mr_jobs.specs.Views.{spec_of}

@@ -1,4 +1,4 @@
-use Rattle.std.proofs.Common.{◌≡◌, ◌-◌, ◌∙◌, All, List, ℕ, length, take, drop, subst, sym, ap}
+use Rattle.std.proofs.Common.{◌≡◌, ◌-◌, ◌∙◌, All, List, ℕ, drop, subst, sym, ap}
 use Rattle.std.proofs.lemmas.List.Elements.{All-take, All-drop}
 use Rattle.mr_bytes.specs.Words.{word_spans}
 use Rattle.mr_bytes.specs.declared.Span.{Span}

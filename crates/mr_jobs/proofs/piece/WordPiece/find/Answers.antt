@@ -1,4 +1,4 @@
-use Rattle.std.proofs.Common.{◌≡◌, ◌≤◌, ◌∙◌, ℕ, Bool, true, List, ap, sym, subst, length}
+use Rattle.std.proofs.Common.{◌≡◌, ◌≤◌, ◌∙◌, ℕ, true, List, ap, sym, subst, length}
 use Rattle.mr_bytes.specs.Words.{word_spans, word_spans_from}
 use Rattle.mr_bytes.specs.declared.Span.{Span}
 use Rattle.std.specs.Prelude.{slice_range}
@@ -30,6 +30,6 @@ returns c =
     (subst (λ (ws : List Span). IsCut ws start first) words cut_first)
     (subst (λ (ws : List Span). IsCut ws end last) words c.go_on-last.ensures.cut) in
     subst (λ (s : PieceSpec). record { folds = p.folds; file = p.file; from = p.from; text = text; listed = p.listed; line = words_in p.listed text first last }
-        ≡ record { folds = s.folds; file = s.file; from = s.from; text = s.text; listed = s.listed; line = word_spans_from start (slice_range s.text start end) })
+    ≡ record { folds = s.folds; file = s.file; from = s.from; text = s.text; listed = s.listed; line = word_spans_from start (slice_range s.text start end) })
     c.self.view_is
     (ap (λ (l : List Span). record { folds = p.folds; file = p.file; from = p.from; text = text; listed = p.listed; line = l }) line)

@@ -1,4 +1,4 @@
-use Rattle.std.proofs.Common.{◌≡◌, ◌∙◌, [], ℕ, List, false, ap}
+use Rattle.std.proofs.Common.{◌∙◌, [], ℕ, List, false, ap}
 use Rattle.mr_bytes.specs.Words.{word_spans}
 use Rattle.mr_bytes.proofs.WordLemmas.{word_spans_from-nil}
 use Rattle.mr_jobs.proofs.piece.WordPiece.new.Goals as goal

@@ -1,4 +1,4 @@
-use Rattle.std.proofs.Common.{◌≡◌, ◌+◌, ◌-◌, ◌∙◌, ℕ, List, Bool, length, ap, sym, subst, arith}
+use Rattle.std.proofs.Common.{◌≡◌, ◌-◌, ◌∙◌, ℕ, length, ap, arith}
 use Rattle.mr_jobs.specs.Emissions.{words_at}
 use Rattle.mr_jobs.specs.Pieces.{HasLine, IsPart, PieceSpec}
 use Rattle.mr_jobs.proofs.PieceLemmas.{line-of-part}

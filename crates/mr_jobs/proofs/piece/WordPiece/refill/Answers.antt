@@ -1,9 +1,6 @@
-use Rattle.std.proofs.Common.{◌≡◌, ◌+◌, ◌-◌, ◌∙◌, ℕ, List, Bool, length, ap, sym, subst, arith, refl}
-use Rattle.std.specs.Prelude.{slice_range}
-use Rattle.mr_bytes.specs.Words.{word_spans_from}
-use Rattle.mr_bytes.specs.declared.Span.{Span}
-use Rattle.mr_jobs.specs.Emissions.{words_at, words_from}
-use Rattle.mr_jobs.specs.Pieces.{IsSeam, PieceSpec, read_as}
+use Rattle.std.proofs.Common.{◌≡◌, ◌+◌, ◌-◌, ◌∙◌, ℕ, List, Bool, ap, sym, subst, arith, refl}
+use Rattle.mr_jobs.specs.Emissions.{words_at}
+use Rattle.mr_jobs.specs.Pieces.{IsSeam, PieceSpec}
 use Rattle.mr_jobs.proofs.PieceLemmas.{line-of-part, seam-of-part}
 use Rattle.mr_jobs.proofs.piece.WordPiece.refill.Goals as goal
 
