@@ -32,14 +32,17 @@ left : (name : RecordName) (place : ℕ) (ts : List Triple) (now later : List Em
 left name place ts now later key value e is = e ∙ ap (placed_from name place) is ∙ placed-next name place key value later
 
 pub loop-key-init : goal.loop-key-init
-loop-key-init c = record {
-  alike = record { split = refl; by = refl; parts = refl };
-  own = c.requires.own;
-  count = omega (arith, ap length c.emit-emitter.ensures.emissions);
-  left = ap (placed_from c.args.number 0) (sym c.emit-emitter.ensures.emissions);
-  rise = c.requires.rise;
-  taken = takes-none c.args.self.now;
-}
+loop-key-init c =
+    let line = c.args.line in
+    let all : c.emitter-emitter.result ≡ emissions c.args.mapper.now.job line.file line.start line.bytes.now = c.emitter-emitter.ensures ∙ c.in_ok-emit.ensures.emissions in
+    record {
+      alike = record { split = refl; by = refl; parts = refl };
+      own = c.requires.own;
+      count = omega (arith, ap length all);
+      left = ap (placed_from c.args.number 0) (sym all);
+      rise = c.requires.rise;
+      taken = takes-none c.args.self.now;
+    }
 
 pub push-requires-clause-rise : goal.push-requires-clause-rise
 push-requires-clause-rise c =
