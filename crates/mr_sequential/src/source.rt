@@ -19,7 +19,6 @@ fn gather_record(
     alloc: Global,
     mapper: &mut Mapper<'_, '_>,
     line: RecordAt<'_>,
-    buffer: &mut Vec<u8>,
     keys: &mut KeyColumn,
 ) -> Result<(), AllocError>
     requires small { length line.bytes.now ≤ 2 ^ 30 }
@@ -31,8 +30,7 @@ fn gather_record(
         ≡ keys.old ++ map (λ e. e.0)
         (emissions mapper.old.job line.entry.file line.entry.start line.entry.bytes.now)) }
 {
-    mapper.job().fold_line(line.bytes, buffer)?;
-    let mut emitter = mapper.emit(line.file, line.start, line.bytes, buffer.as_slice());
+    let mut emitter = mapper.emit(line.file, line.start, line.bytes)?.emitter();
     while let Some((key, _)) = emitter.next() {
         keys.push(alloc, key)?;
     }
@@ -51,7 +49,6 @@ fn gather_one(
     alloc: Global,
     mapper: &mut Mapper<'_, '_>,
     line: RecordAt<'_>,
-    buffer: &mut Vec<u8>,
     emitted: &mut Emitted,
 ) -> Result<(), AllocError>
     requires small { length line.bytes.now ≤ 2 ^ 30 }
@@ -67,7 +64,7 @@ fn gather_one(
         (emissions mapper.old.job line.entry.file line.entry.start line.entry.bytes.now) ∷ []) }
 {
     let before = emitted.keys.len();
-    gather_record(alloc, mapper, line, buffer, &mut emitted.keys)?;
+    gather_record(alloc, mapper, line, &mut emitted.keys)?;
     let count = emitted.keys.len() - before;
     emitted.counts.push(count as u32)?;
     Ok(())
@@ -90,14 +87,13 @@ fn gather_all(
 {
     let plan = kept.plan();
     let mut left = kept.records();
-    let mut buffer = Vec::new(alloc);
     let mut pace = Throttle::new(Phase::Mapping, plan.count() as u64);
     let mut done = 0u64;
-    let mut mapper = job.mapper(plan.input());
+    let mut mapper = job.mapper(alloc, plan.input());
     while let Some((_, line)) = left.next() {
         pace.reach(done, watch);
         done = done.saturating_add(1);
-        gather_one(alloc, &mut mapper, line, &mut buffer, emitted)?;
+        gather_one(alloc, &mut mapper, line, emitted)?;
     }
     Ok(())
 }
