@@ -1,2 +1,3 @@
 pub mod TextLemmas
 pub mod FileLemmas
+pub mod WritingLemmas

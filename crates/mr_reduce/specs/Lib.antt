@@ -1,3 +1,4 @@
 pub mod Text
 pub mod Files
 pub mod Laws
+pub mod Writing

@@ -9,12 +9,14 @@ ghost use Rattle.mr_reduce.specs.Text.{text_of, total_line, place_line};
 ghost use Rattle.mr_reduce.specs.Laws.{CountersTellTheNumber, FilesAreTold, FilesRise};
 
 mod files;
+mod writer;
 
 use crate::files::{Listed, put_files};
 use itoa::Buffer;
 use mr_bytes::{Value, ValueColumn};
 use mr_jobs::{GroupText, Job};
 use std::alloc::AllocError;
+pub use writer::TextWriter;
 
 /// Appends the text of a key with all its values, in input order. A job that counts writes the key
 /// with the number of values, `grep` a line per value that is a place, an index the key with the
