@@ -1,6 +1,7 @@
 pub mod PackedLemmas
 pub mod CertifiedLaws
 pub mod EntryLaws
+pub mod FileOrder
 pub mod FillLemmas
 pub mod GoodLaws
 pub mod GroupLemmas
@@ -17,5 +18,4 @@ pub mod SourceLemmas
 pub mod TextLemmas
 pub mod UniqueLaws
 pub mod ValueLemmas
-pub mod ToldLemmas
 pub mod VersionLaws

@@ -1,13 +1,10 @@
 -- Texts that grow, one row after another.
-use Rattle.std.proofs.Common.{◌≡◌, ◌≢◌, true, false, ℕ, suc, ◌+◌, ◌<◌, ◌≤◌, cond, eqb, List, [], ◌∷◌, ◌++◌, length, get_or, set, drop, refl, sym, ◌∙◌, ap, arith, Vec, Global, append_assoc, inl, inr, subst}
+use Rattle.std.proofs.Common.{◌≡◌, ◌≢◌, ℕ, suc, ◌+◌, ◌<◌, ◌≤◌, cond, eqb, List, [], ◌∷◌, ◌++◌, length, get_or, set, drop, refl, sym, ◌∙◌, ap, arith, Vec, Global, append_assoc, inl, inr, subst}
 use Rattle.std.proofs.lemmas.Bool.{cases_eq, eq-eqb, ne_eqb}
 use Rattle.std.proofs.lemmas.List.{at_drop_more, at_drop_all, map-set, get_or-map, get_or-set_same, get_or-set_other, append-nil}
 use Rattle.mr_input.specs.Files.{contents, nth_file}
 use Rattle.mr_group.specs.declared.rows.Row.{Row}
 use Rattle.mr_group.specs.Rows.{no_row}
-use Rattle.mr_bytes.specs.declared.Value.{Value}
-use Rattle.mr_jobs.specs.JobSpec.{JobSpec, WordCount, LinesWith, Resources, InvertedIndex, has_lines}
-use Rattle.mr_reduce.specs.Text.{place_line, text_of}
 use Rattle.mr_sequential.specs.Rows.{row_texts}
 
 -- one text of many gets more bytes
@@ -74,10 +71,3 @@ row_texts-congr f g p r (x ∷ rows) same =
       | inl e ↦ row_texts-same f p r x rows e ∙ ap (λ l. l ++ row_texts f p (r + 1) rows) first ∙ ap (λ l. g r x ++ l) later ∙ sym (row_texts-same g p r x rows e)
       | inr ne ↦ row_texts-other f p r x rows ne ∙ later ∙ sym (row_texts-other g p r x rows ne)
     ]
-
--- the lines of one value more
-pub lines-more : (job : JobSpec) (key : List ℕ) (v : Value) (vs : List Value) → has_lines job ≡ true → text_of job key (v ∷ []) ++ text_of job key vs ≡ text_of job key (v ∷ vs)
-lines-more (WordCount keep_case) key v vs lines = absurd (let never : false ≡ true = lines in cc)
-lines-more (LinesWith literal fold) key v vs lines = ap (λ (l : List ℕ). l ++ text_of (LinesWith literal fold) key vs) (append-nil (place_line key v))
-lines-more Resources key v vs lines = absurd (let never : false ≡ true = lines in cc)
-lines-more (InvertedIndex keep_case) key v vs lines = absurd (let never : false ≡ true = lines in cc)

@@ -58,7 +58,7 @@ each-found size files r some h =
     }
 
 -- all of them
-all-found : (size : ℕ) (files : List (List ℕ)) → 0 < size → All (IsFound size files) (named_records size files)
+pub all-found : (size : ℕ) (files : List (List ℕ)) → 0 < size → All (IsFound size files) (named_records size files)
 all-found size files some = λ k d h. each-found size files (get_or (named_records size files) k d) some (Has-at (named_records size files) k d h)
 
 -- ---- the names of records' pairs are names of records

@@ -2,17 +2,17 @@
 ghost use Rattle.std.specs.Prelude.{◌≡◌, ℕ, ◌+◌, ◌≤◌, ◌<◌, [], ◌++◌, IfOk, OnOk, All, false, true};
 ghost use Rattle.std.specs.Prelude.{length, map, slice_set};
 ghost use Rattle.mr_input.specs.Files.{contents, nth_file};
-ghost use Rattle.mr_jobs.specs.JobSpec.{counts as is_counter, has_lines};
-ghost use Rattle.mr_reduce.specs.Text.{files_of, text_of, total_line};
+ghost use Rattle.mr_jobs.specs.JobSpec.{counts as is_counter};
+ghost use Rattle.mr_reduce.specs.Files.{NeverFalls};
+ghost use Rattle.mr_reduce.specs.Text.{text_of, total_line};
 ghost use Rattle.mr_splits.specs.Cut.{records_of};
 ghost use Rattle.mr_sequential.specs.Names.{IsOfRecord, value_under};
 ghost use Rattle.mr_sequential.specs.Rows.{count_line, names_text, row_names, row_start, row_texts};
 
-use mr_bytes::ValueColumn;
 use mr_certform::{FlatGroups, Names};
 use mr_group::Row;
 use mr_jobs::Job;
-use mr_reduce::{append_text, append_total, group_text};
+use mr_reduce::{TextWriter, append_total};
 use mr_splits::Plan;
 use std::alloc::{AllocError, Global};
 
@@ -38,74 +38,28 @@ fn add_total(texts: &mut Vec<Vec<u8>>, row: Row<'_>, total: u32) -> Result<(), A
     append_total(row.key, total as u64, text)
 }
 
-/// Appends a line for each name. A group may be all of the input: it gets no list of values.
-fn add_lines(
-    job: &Job,
-    plan: &Plan<'_>,
-    key: &[u8],
-    names: Names<'_>,
-    text: &mut Vec<u8>,
-) -> Result<(), AllocError>
-    requires lines { has_lines job.now ≡ true }
-    requires named { All (IsOfRecord plan.now) names }
-    ensures { OnOk result (text.new.items ≡ text.old.items
-        ++ text_of job.now key.now (map (value_under job.now (records_of plan.now)) names.entry)) }
-{
-    let mut left = names;
-    while let Some(name) = left.next() {
-        let record = plan.locate(name.split, name.rec);
-        let value = job.value_at(record.file, record.start);
-        group_text(job, key, &[value], text)?;
-    }
-    Ok(())
-}
-
-/// Fills `told` with values that have the files of an index's pairs. Neighbours of one file share
-/// one value, so there are no more values than files where names rise.
-fn fill_files(
-    job: &Job,
-    plan: &Plan<'_>,
-    names: Names<'_>,
-    told: &mut ValueColumn,
-) -> Result<(), AllocError>
-    requires counts { is_counter job.now ≡ false }
-    requires lines { has_lines job.now ≡ false }
-    requires named { All (IsOfRecord plan.now) names }
-    ensures { OnOk result (files_of told.new
-        ≡ files_of (map (value_under job.now (records_of plan.now)) names.entry)) }
-{
-    told.clear();
-    let _count = names.len();
-    let mut last = None;
-    let mut left = names;
-    while let Some(name) = left.next() {
-        let record = plan.locate(name.split, name.rec);
-        if last != Some(record.file) {
-            told.push(job.value_at(record.file, record.start))?;
-            last = Some(record.file);
-        }
-    }
-    Ok(())
-}
-
+/// Appends the text of a key, name by name. A group may be all of the input: it gets no list of
+/// values.
 fn add_text(
     job: &Job,
     plan: &Plan<'_>,
     key: &[u8],
     names: Names<'_>,
-    told: &mut ValueColumn,
     text: &mut Vec<u8>,
 ) -> Result<(), AllocError>
     requires counts { is_counter job.now ≡ false }
     requires named { All (IsOfRecord plan.now) names }
+    requires rising { NeverFalls (map (value_under job.now (records_of plan.now)) names) }
     ensures { OnOk result (text.new.items ≡ text.old.items
         ++ text_of job.now key.now (map (value_under job.now (records_of plan.now)) names.entry)) }
 {
-    if job.has_lines() {
-        return add_lines(job, plan, key, names, text);
+    let mut left = names;
+    let mut writer = TextWriter::begin(job, key, text)?;
+    while let Some(name) = left.next() {
+        let record = plan.locate(name.split, name.rec);
+        writer.add(job.value_at(record.file, record.start), text)?;
     }
-    fill_files(job, plan, names, told)?;
-    append_text(job, key, told, text)
+    writer.finish(text)
 }
 
 fn add_names(
@@ -114,10 +68,10 @@ fn add_names(
     texts: &mut Vec<Vec<u8>>,
     row: Row<'_>,
     names: Names<'_>,
-    told: &mut ValueColumn,
 ) -> Result<(), AllocError>
     requires counts { is_counter job.now ≡ false }
     requires named { All (IsOfRecord plan.now) names }
+    requires rising { NeverFalls (map (value_under job.now (records_of plan.now)) names) }
     requires part { row.part < length texts.old.items }
     ensures count { length texts.new.items ≡ length texts.old.items }
     ensures ok { OnOk result (contents texts.new.items
@@ -126,7 +80,7 @@ fn add_names(
         ++ text_of job.now row.entry.key.now (map (value_under job.now (records_of plan.now)) names.entry))) }
 {
     let text = &mut texts[row.part as usize];
-    add_text(job, plan, row.key, names, told, text)
+    add_text(job, plan, row.key, names, text)
 }
 
 fn count_texts(rows: &[Row<'_>], sizes: &[u32], texts: &mut Vec<Vec<u8>>) -> Result<(), AllocError>
@@ -148,7 +102,6 @@ fn name_texts(
     rows: &[Row<'_>],
     counts: &[u32],
     names: Names<'_>,
-    told: &mut ValueColumn,
     texts: &mut Vec<Vec<u8>>,
 ) -> Result<(), AllocError>
     requires counting { is_counter job.now ≡ false }
@@ -157,6 +110,8 @@ fn name_texts(
     requires within { row_start counts.now (length rows.now) ≤ length names }
     requires named { (r : ℕ) → r < length rows.now
         → All (IsOfRecord plan.now) (row_names counts.now names r) }
+    requires rising { (r : ℕ) → r < length rows.now → NeverFalls
+        (map (value_under job.now (records_of plan.now)) (row_names counts.now names r)) }
     ensures count { length texts.new.items ≡ length texts.old.items }
     ensures ok { OnOk result ((p : ℕ) → p < length texts.old.items → nth_file (contents texts.new.items) p
         ≡ nth_file (contents texts.old.items) p
@@ -165,7 +120,7 @@ fn name_texts(
     let mut left = names;
     for (rank, row) in rows.iter().enumerate() {
         let (here, behind) = left.split_at(counts[rank] as usize);
-        add_names(job, plan, texts, *row, here, told)?;
+        add_names(job, plan, texts, *row, here)?;
         left = behind;
     }
     Ok(())
@@ -177,7 +132,6 @@ fn fill_texts(
     plan: &Plan<'_>,
     rows: &[Row<'_>],
     groups: &FlatGroups,
-    told: &mut ValueColumn,
     texts: &mut Vec<Vec<u8>>,
 ) -> Result<(), AllocError>
     requires parts { All (λ r. r.part < length texts.old.items) rows.now }
@@ -186,6 +140,8 @@ fn fill_texts(
         ≤ length groups.now.names }
     requires named { (r : ℕ) → r < length rows.now → All (IsOfRecord plan.now)
         (row_names groups.now.entry_counts.items groups.now.names r) }
+    requires rising { (r : ℕ) → r < length rows.now → NeverFalls (map (value_under job.now
+        (records_of plan.now)) (row_names groups.now.entry_counts.items groups.now.names r)) }
     ensures count { length texts.new.items ≡ length texts.old.items }
     ensures ok { OnOk result ((p : ℕ) → p < length texts.old.items → nth_file (contents texts.new.items) p
         ≡ nth_file (contents texts.old.items) p
@@ -195,7 +151,7 @@ fn fill_texts(
     if job.counts() {
         count_texts(rows, counts, texts)
     } else {
-        name_texts(job, plan, rows, counts, groups.names.names(), told, texts)
+        name_texts(job, plan, rows, counts, groups.names.names(), texts)
     }
 }
 
@@ -213,13 +169,14 @@ pub(crate) fn texts_of(
         ≤ length groups.now.names }
     requires named { (r : ℕ) → r < length rows.now → All (IsOfRecord plan.now)
         (row_names groups.now.entry_counts.items groups.now.names r) }
+    requires rising { (r : ℕ) → r < length rows.now → NeverFalls (map (value_under job.now
+        (records_of plan.now)) (row_names groups.now.entry_counts.items groups.now.names r)) }
     ensures count { IfOk result (λ v. length v.items ≡ parts) }
     ensures texts { IfOk result (λ v. (p : ℕ) → p < parts → nth_file (contents v.items) p
         ≡ row_texts (names_text job.now
         (records_of plan.now) groups.now.entry_counts.items groups.now.names) p 0 rows.now) }
 {
     let mut texts = empty_texts(alloc, parts)?;
-    let mut told = ValueColumn::new(alloc);
-    fill_texts(job, plan, rows, groups, &mut told, &mut texts)?;
+    fill_texts(job, plan, rows, groups, &mut texts)?;
     Ok(texts)
 }

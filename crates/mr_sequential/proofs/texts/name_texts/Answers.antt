@@ -1,6 +1,7 @@
 use Rattle.std.proofs.Common.{◌≡◌, ℕ, ◌<◌, ◌≤◌, ◌+◌, ◌-◌, ◌++◌, List, All, drop, take, length, get_or, ap, ◌∙◌, sym, refl, arith, Vec, Global, set, subst, map}
 use Rattle.std.proofs.lemmas.List.{drop-drop, get_or_default, length-drop, length-map}
 use Rattle.mr_bytes.specs.declared.Name.{Name}
+use Rattle.mr_reduce.specs.Files.{NeverFalls}
 use Rattle.mr_reduce.specs.Text.{text_of}
 use Rattle.mr_input.specs.Files.{contents, nth_file}
 use Rattle.mr_group.specs.declared.rows.Row.{Row}
@@ -48,6 +49,13 @@ add_names-requires-clause-named c =
     let l = c.loop-rank in
     subst (All (IsOfRecord c.args.plan.now)) (sym (row_is c.args.counts.now c.args.names l.left c.split_at-here.result.0 l.rank l.invariant.left c.split_at-here.ensures.front))
     (c.requires.named l.rank c.loop-rank-test.true)
+
+pub add_names-requires-clause-rising : goal.add_names-requires-clause-rising
+add_names-requires-clause-rising c =
+    let l = c.loop-rank in
+    subst (λ (names : List Name). NeverFalls (map (value_under c.args.job.now (records_of c.args.plan.now)) names))
+    (sym (row_is c.args.counts.now c.args.names l.left c.split_at-here.result.0 l.rank l.invariant.left c.split_at-here.ensures.front))
+    (c.requires.rising l.rank c.loop-rank-test.true)
 
 pub loop-rank-preserved : goal.loop-rank-preserved
 loop-rank-preserved c =
