@@ -1,5 +1,5 @@
 -- Pairs stand in the order of their files, and so do the pairs of each row.
-use Rattle.std.proofs.Common.{◌≡◌, ◌⊎◌, ℕ, zero, suc, ◌+◌, ◌/◌, eqb, ◌<◌, ◌≤◌, true, false, cond, not, Bool, List, [], ◌∷◌, ◌++◌, ◌∙◌, length, filter, map, refl, sym, ap, subst, arith, inl, inr, All}
+use Rattle.std.proofs.Common.{◌≡◌, ℕ, zero, suc, ◌+◌, ◌/◌, eqb, ◌<◌, ◌≤◌, true, false, cond, not, Bool, List, [], ◌∷◌, ◌++◌, ◌∙◌, filter, map, sym, ap, subst, arith, inl, inr, All}
 use Rattle.std.proofs.lemmas.Bool.{cases_eq}
 use Rattle.std.proofs.lemmas.List.Elements.{All-head, All-tail, All-filter}
 use Rattle.std.specs.List.{zip}
@@ -20,7 +20,7 @@ use Rattle.mr_splits.specs.Named.{NamedRecord, is_left_out, named_files, named_f
 use Rattle.mr_splits.specs.Cut.{Cut, nth_named, records_of}
 use Rattle.mr_splits.specs.Kept.{kept_records}
 use Rattle.mr_sequential.specs.Names.{names_beside, names_from, record_under, value_under}
-use Rattle.mr_sequential.proofs.ValueLemmas.{IsFound, all-found}
+use Rattle.mr_sequential.proofs.ValueLemmas.{all-found}
 
 -- the files of items never fall, and none is below the floor
 abbrev pub Climbs : {X : Type 0} → (X → ℕ) → ℕ → List X → Type 0

@@ -1,5 +1,5 @@
 -- Of no public promise: pairs without their names, and how their keys are gathered: distinct keys, and for each pair its key's number.
-use Rattle.std.specs.Prelude.{ℕ, if◌then◌else◌, List, [], ◌++◌, map, filter}
+use Rattle.std.specs.Prelude.{ℕ, if◌then◌else◌, List, [], map, filter}
 use Rattle.std.specs.List.{flat_map, range_with_len, zip}
 use Rattle.std.specs.Str.{bytes_eq}
 use Rattle.mr_bytes.specs.declared.Value.{Value}
