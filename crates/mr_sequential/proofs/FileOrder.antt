@@ -108,10 +108,11 @@ module _ (all : List NamedRecord) where
   names-climb r place zero rest there up = up
   names-climb r place (suc count) rest there up =
       let n : Name = record { split = r.name.split; rec = r.name.rec; place = place } in
-      let is : r.file ≡ file_under n = ap (λ (x : NamedRecord). x.file) (sym there) in
-      (omega (arith, is),
-      subst (λ (f : ℕ). Climbs file_under f (names_from r.name (place + 1) count ++ rest)) is
-      (names-climb r (place + 1) count rest there up))
+      let is : r.file ≡ file_under n = ap (λ (x : NamedRecord). x.file) (sym there) in (
+        omega (arith, is),
+        subst (λ (f : ℕ). Climbs file_under f (names_from r.name (place + 1) count ++ rest)) is
+            (names-climb r (place + 1) count rest there up),
+      )
 
   beside-climbs : (floor : ℕ) (rs : List NamedRecord) (counts : List ℕ) → All IsThere rs
       → Climbs file_of floor rs → Climbs file_under floor (names_beside rs counts)

@@ -1,5 +1,16 @@
 //! The outputs: for each partition the texts of its groups, by rising key.
-ghost use Rattle.std.specs.Prelude.{◌≡◌, ℕ, ◌+◌, ◌≤◌, ◌<◌, [], ◌++◌, IfOk, OnOk, All, false, true};
+//!
+//!     rows     r0      r1   r2            each goes to the text of its partition
+//!     counts   2       1    3
+//!     names    a a     a    a b c         of record a, then b, then c
+//!
+//! A job that counts needs only the counts. For any other a row takes its names from the front of
+//! those left, and a writer puts what each name tells behind the text of the row's partition. The
+//! names of a row come record by record, so their files never fall, and an index tells each once.
+//!
+//! Invariant: each text is that of its partition's rows so far. Takes constant time for each name
+//! beside the texts, and no memory but theirs.
+ghost use Rattle.std.specs.Prelude.{◌≡◌, ℕ, ◌≤◌, ◌<◌, [], ◌++◌, IfOk, OnOk, All, false};
 ghost use Rattle.std.specs.Prelude.{length, map, slice_set};
 ghost use Rattle.mr_input.specs.Files.{contents, nth_file};
 ghost use Rattle.mr_jobs.specs.JobSpec.{counts as is_counter};
@@ -38,7 +49,7 @@ fn add_total(texts: &mut Vec<Vec<u8>>, row: Row<'_>, total: u32) -> Result<(), A
     append_total(row.key, total as u64, text)
 }
 
-/// Appends the text of a key, name by name. A group may be all of the input: it gets no list of
+/// Appends the text of a key, name by name. A group may be all of the input: no list holds its
 /// values.
 fn add_text(
     job: &Job,

@@ -22,12 +22,13 @@ loop-name-preserved c =
     let done : List Name = was.0 in
     let is : c.value_at.result ≡ value name = c.value_at.ensures ∙ sym (ap (λ (r : NamedRecord). value_at job r.file r.start) c.locate-record.ensures.record) in
     let longer : map value (done ++ name ∷ []) ≡ map value done ++ c.value_at.result ∷ [] =
-        map-append value done (name ∷ []) ∙ ap (λ (v : Value). map value done ++ v ∷ []) (sym is) in
-    (done ++ name ∷ [],
-    append_assoc done (name ∷ []) c.next.new.self ∙ ap (λ (l : List Name). done ++ l) (sym c.in-Some.ensures) ∙ was.1,
-    All-tail (IsOfRecord c.args.plan.now) name c.next.new.self (subst (All (IsOfRecord c.args.plan.now)) c.in-Some.ensures was.2),
-    subst (λ (vs : List Value). Writes job c.args.key.now vs before c.add.new.self c.add.new.out.items) (sym longer)
-    (c.in_ok-add.ensures.ok job c.args.key.now (map value done) before was.3))
+    map-append value done (name ∷ []) ∙ ap (λ (v : Value). map value done ++ v ∷ []) (sym is) in (
+      done ++ name ∷ [],
+      append_assoc done (name ∷ []) c.next.new.self ∙ ap (λ (l : List Name). done ++ l) (sym c.in-Some.ensures) ∙ was.1,
+      All-tail (IsOfRecord c.args.plan.now) name c.next.new.self (subst (All (IsOfRecord c.args.plan.now)) c.in-Some.ensures was.2),
+      subst (λ (vs : List Value). Writes job c.args.key.now vs before c.add.new.self c.add.new.out.items) (sym longer)
+          (c.in_ok-add.ensures.ok job c.args.key.now (map value done) before was.3),
+    )
 
 pub returns : goal.returns
 returns c =
