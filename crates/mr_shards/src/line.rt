@@ -15,8 +15,8 @@ use crate::merger::MergeFault;
 use itoa::Buffer;
 use memchr::{memchr, memrchr};
 use mr_bytes::Value;
-use mr_jobs::Job;
 use mr_group::front_of;
+use mr_jobs::Job;
 use mr_reduce::{append_total, group_text};
 use std::alloc::AllocError;
 
