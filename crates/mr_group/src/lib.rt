@@ -1,8 +1,13 @@
-//! Groups pairs by key.
+//! Groups items by key: each distinct key is stored and sorted once, and each item is moved once.
 //!
-//! `interner.rt` numbers the distinct keys, `column.rt` keeps the numbers of the pairs' keys.
-//! `rows.rt` sorts the keys by partition and then key, each once, whose places are their ranks. A
-//! counting sort (`counting.rt`) then orders the pairs by rank.
+//!     keys of items    the cat the dog
+//!     numbers            0   1   0   2    by first appearance    interner.rt, column.rt
+//!     rows             cat dog the        by partition and key   rows.rt
+//!     ranks              2   0   2   1    of the items' keys
+//!     items a b c d    b | d | a c        by rank                counting.rt, scattering.rt
+//!
+//! A key may have two numbers (`interner.rt`), but has one rank.
+//! Cost: a look-up and one move for each item, a sort of the distinct keys.
 #![tactic(auto)]
 
 mod column;
