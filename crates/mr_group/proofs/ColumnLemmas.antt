@@ -39,3 +39,11 @@ numbers-more ks ls is key n old grew last found =
       ];
       few = omega (arith, counts.1, old.few, length-append is (n ∷ []));
     }
+
+-- a number that was there once more
+pub numbers-again : (ks : List (List ℕ)) (is : List ℕ) (n : ℕ) → AreNumbers ks is → n < length ks → AreNumbers ks (is ++ n ∷ [])
+numbers-again ks is n old within = record {
+  inside = All-push (λ j. j < length ks) is n old.inside within;
+  used = λ i h. Has-append_left is (n ∷ []) i (old.used i h);
+  few = omega (arith, old.few, length-append is (n ∷ []));
+}

@@ -81,6 +81,21 @@ impl Interner {
         }
     }
 
+    /// The keys by number.
+    pub fn texts(&self) -> &Texts
+        ensures { result.now ≡ self.now }
+    {
+        &self.texts
+    }
+
+    /// The keys by number; the table is freed.
+    pub fn into_texts(self) -> Texts
+        ensures { result ≡ self }
+    {
+        let Interner { texts, .. } = self;
+        texts
+    }
+
     /// Removes all keys, and keeps their memory.
     pub fn clear(&mut self)
         ensures { self.new ≡ [] }

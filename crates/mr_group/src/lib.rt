@@ -24,6 +24,6 @@ mod texts;
 pub use column::KeyColumn;
 pub use counting::{sizes_of, starts_of};
 pub use first_bytes::{front_law, front_of};
-pub use interner::Interner;
 pub use rows::{RankedPairs, Row, ranked};
 pub use scattering::{Items, scatter};
+pub use texts::Texts;

@@ -9,7 +9,7 @@ use std::marker::Model;
 
 /// Texts in one buffer, less than 4 GiB.
 #[derive(Drop)]
-pub(crate) struct Texts {
+pub struct Texts {
     bytes: Vec<u8>,
     spans: Vec<Span>,
 }
@@ -42,7 +42,7 @@ fn span_behind(bytes: usize, text: &[u8]) -> Result<Span, AllocError>
 }
 
 impl Texts {
-    pub fn new(alloc: Global) -> Texts
+    pub(crate) fn new(alloc: Global) -> Texts
         ensures { result ≡ [] }
     {
         Texts {
@@ -51,12 +51,14 @@ impl Texts {
         }
     }
 
+    /// How many texts there are.
     pub fn len(&self) -> usize
         ensures { result ≡ length self.now }
     {
         self.spans.len()
     }
 
+    /// Text `i`, from 0.
     pub fn get(&self, i: usize) -> &[u8]
         requires { i < length self.now }
         ensures { result.now ≡ key_at self.now i }
@@ -66,13 +68,13 @@ impl Texts {
     }
 
     /// Whether text `i` exists and is the key.
-    pub fn is_at(&self, i: usize, key: &[u8]) -> bool
+    pub(crate) fn is_at(&self, i: usize, key: &[u8]) -> bool
         ensures { IsTrue result → IsKeyAt self.now i key.now }
     {
         i < self.len() && self.get(i) == key
     }
 
-    pub fn push(&mut self, text: &[u8]) -> Result<(), AllocError>
+    pub(crate) fn push(&mut self, text: &[u8]) -> Result<(), AllocError>
         ensures ok { OnOk result (self.new ≡ self.old ++ text.now ∷ []) }
         ensures err { OnErr result (self.new ≡ self.old) }
     {
@@ -85,7 +87,7 @@ impl Texts {
         Ok(())
     }
 
-    pub fn clear(&mut self)
+    pub(crate) fn clear(&mut self)
         ensures { self.new ≡ [] }
     {
         self.bytes.clear();

@@ -1,7 +1,7 @@
 //! More kernels, of a case's two texts: jobs, what `map` adds, texts of groups, and numbers of keys.
 use crate::telling::Teller;
 use mr_bytes::{Value, ValueColumn};
-use mr_group::Interner;
+use mr_group::{KeyColumn, Texts};
 use mr_jobs::{Emissions, Job, RecordStart, map};
 use mr_reduce::{append_text, append_total, group_text};
 use std::alloc::{AllocError, Global};
@@ -148,30 +148,25 @@ fn show_texts(teller: &Teller, key: &[u8]) -> Result<(), AllocError> {
     }
 }
 
-/// Adds the number of a key, while there are few.
-fn number(
-    alloc: Global,
-    key: &[u8],
-    keys: &mut Interner,
-    numbers: &mut Vec<u32>,
-) -> Result<(), AllocError> {
+/// Adds a key, while there are few.
+fn add_key(alloc: Global, key: &[u8], keys: &mut KeyColumn) -> Result<(), AllocError> {
     if keys.len() < MANY {
-        numbers.push(keys.number_of(alloc, key)?)?;
+        keys.push(alloc, key)?;
     }
     Ok(())
 }
 
-/// The numbers of keys of two bytes, of which the second is told.
-fn numbered(alloc: Global, bytes: &[u8], keys: &mut Interner) -> Result<Vec<u32>, AllocError> {
-    let mut numbers = Vec::new(alloc);
+/// Keys of two bytes, of which the second is told.
+fn keys_of(alloc: Global, bytes: &[u8]) -> Result<KeyColumn, AllocError> {
+    let mut keys = KeyColumn::new(alloc);
     for byte in bytes {
-        number(alloc, &[b'k', *byte], keys, &mut numbers)?;
+        add_key(alloc, &[b'k', *byte], &mut keys)?;
     }
-    Ok(numbers)
+    Ok(keys)
 }
 
 /// The key of each number.
-fn show_each_key(teller: &Teller, keys: &Interner) {
+fn show_each_key(teller: &Teller, keys: &Texts) {
     for number in 0..keys.len() {
         teller.behind("|", &keys.get(number));
     }
@@ -180,10 +175,9 @@ fn show_each_key(teller: &Teller, keys: &Interner) {
 
 /// Numbers the keys, and tells what comes of it; how many are left behind `clear`.
 fn show_keys(teller: &Teller, bytes: &[u8]) -> Result<(), AllocError> {
-    let mut keys = Interner::new(teller.alloc());
-    teller.before(&numbered(teller.alloc(), bytes, &mut keys)?, " ");
-    let mut again = Interner::new(teller.alloc());
-    let _numbers = numbered(teller.alloc(), bytes, &mut again)?;
+    let (keys, numbers) = keys_of(teller.alloc(), bytes)?.into_parts();
+    teller.before(&numbers, " ");
+    let mut again = keys_of(teller.alloc(), bytes)?;
     again.clear();
     teller.part(&again.len());
     show_each_key(teller, &keys);

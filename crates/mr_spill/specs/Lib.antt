@@ -7,7 +7,6 @@ pub mod Keyed
 pub mod Lent
 pub mod Reading
 pub mod Regions
-pub mod Rows
 pub mod Spelling
 pub mod Table
 pub mod WorkedBytes

@@ -1,7 +1,10 @@
 -- A run of a map task, sealed as bytes (OSDI 2004, section 3.1).
-use Rattle.std.specs.Prelude.{◌≡◌, ℕ, ◌<◌, ◌^◌, List, [], length, slice_index_or}
+use Rattle.std.specs.Prelude.{◌≡◌, ℕ, ◌<◌, ◌^◌, List, Vec, [], length, map, slice_index_or}
+use Rattle.std.specs.Global.{Global}
 use Rattle.std.specs.List.{AllByRecursion}
 use Rattle.mr_bytes.specs.Pairs.{Triple}
+use Rattle.mr_spill.specs.declared.sealed.Size.{Size}
+use Rattle.mr_spill.specs.Keyed.{KeyEntries, pairs_in}
 use Rattle.mr_spill.specs.Spelling.{PairFits, SpellsRegion, region_bytes}
 
 -- the split whose run it is, and the bytes of its regions, by partition
@@ -15,12 +18,21 @@ pub record SpellsRun (run : RunText) (split parts : ℕ) (region : ℕ → List 
   pub count : length run.regions ≡ parts
   pub each : (p : ℕ) → p < parts → SpellsRegion (slice_index_or run.regions p []) split p (region p)
 
--- Of no public promise: there are as many, and each is for its place
-pub record AreFor {X : Type 0} (IsFor : ℕ → X → Type 0) (count : ℕ) (xs : List X) : Type 0 where
-  pub many : length xs ≡ count
-  pub each : (p : ℕ) (d : X) → p < count → IsFor p (slice_index_or xs p d)
+-- ---- Of no public promise: how the regions come about.
 
--- Of no public promise: the text of these pairs, in whatever order they are
+-- the text of partition `p`
+abbrev pub text_at : List (Vec ℕ Global) → ℕ → List ℕ
+text_at texts p = slice_index_or (map (λ b. b.items) texts) p []
+
+-- a size that stands for none, and that of partition `p`
+abbrev pub nth_size : List Size → ℕ → Size
+nth_size sizes p = slice_index_or sizes p (record { count = 0; bytes = 0 })
+
+-- each size counts the pairs of its partition, which are few
+abbrev pub HaveSizes : List KeyEntries → List Size → Type 0
+HaveSizes ks sizes = (p : ℕ) → p < length sizes → ((nth_size sizes p).count ≡ length (pairs_in ks p)) × (length (pairs_in ks p) < 2 ^ 32)
+
+-- the text of these pairs, in whatever order they are
 pub record IsText (split partition : ℕ) (ts : List Triple) (text : List ℕ) : Type 0 where
   pub is : text ≡ region_bytes split partition ts
   pub fit : AllByRecursion PairFits ts

@@ -7,13 +7,9 @@ use Rattle.mr_bytes.specs.Pairs.{Triple}
 use Rattle.mr_group.specs.Interner.{key_at}
 use Rattle.mr_spill.specs.Entries.{Entry, under_key}
 
--- the pair of an entry that has the number of its key
-abbrev pub pair_at : List (List ℕ) → ℕ × Entry → Triple
-pair_at keys e = under_key (key_at keys e.0) e.1
-
--- pairs by the numbers of their keys, and what they have beside them
-abbrev pub numbered : List (List ℕ) → List ℕ → List Entry → List Triple
-numbered keys numbers entries = map (pair_at keys) (zip numbers entries)
+-- keys and, in the same order, what stands beside each, as pairs
+abbrev pub beside : List (List ℕ) → List Entry → List Triple
+beside keys entries = map (λ e. under_key e.0 e.1) (zip keys entries)
 
 -- the pairs of list `k`, under a key
 abbrev pub pairs_under : List (List Entry) → List ℕ → ℕ → List Triple

@@ -1,5 +1,5 @@
 //! Values with their names: what pairs have beside their keys.
-ghost use Rattle.std.specs.Prelude.{◌≡◌, ◌++◌, ◌∷◌, [], ◌<◌, IfOk, OnOk, OnErr, length};
+ghost use Rattle.std.specs.Prelude.{◌≡◌, ◌++◌, ◌∷◌, [], ◌<◌, IfOk, OnOk, OnErr, length, map, take};
 ghost use Rattle.mr_spill.specs.Entries.{nth_entry};
 
 use mr_bytes::{Name, Value, ValueColumn};
@@ -82,6 +82,22 @@ impl Entries {
         self.values.push(value)?;
         self.names.push_reserved(name);
         Ok(())
+    }
+
+    /// Keeps only the first `count` entries.
+    pub fn truncate(&mut self, count: usize)
+        ensures { self.new ≡ take count self.old }
+    {
+        self.values.truncate(count);
+        self.names.truncate(count);
+    }
+
+    /// The names; the values are freed.
+    pub fn into_names(self) -> Vec<Name>
+        ensures { result.items ≡ map (λ e. e.1) self }
+    {
+        let Entries { names, .. } = self;
+        names
     }
 
     /// Empties the lists, and keeps their memory.

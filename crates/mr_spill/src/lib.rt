@@ -14,7 +14,6 @@ mod cursor;
 mod dir_store;
 mod entries;
 mod keyed;
-mod lists;
 mod moving;
 mod numbered;
 mod pair_columns;

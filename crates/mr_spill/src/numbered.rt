@@ -1,7 +1,6 @@
 //! Pairs whose keys are numbers: each distinct key is stored once, a few perhaps more often.
-ghost use Rattle.std.specs.Prelude.{◌≡◌, ℕ, ◌-◌, ◌≤◌, ◌<◌, ◌^◌, ◌++◌, ◌∷◌, [], IfOk, IsTrue, OnOk};
+ghost use Rattle.std.specs.Prelude.{◌≡◌, ◌-◌, ◌<◌, ◌++◌, ◌∷◌, [], IsTrue, OnOk};
 ghost use Rattle.std.specs.Prelude.{OnErr, length};
-ghost use Rattle.mr_group.specs.Interner.{IsKeyAt, key_at};
 ghost use Rattle.mr_spill.specs.Column.{nth_pair};
 ghost use Rattle.mr_spill.specs.Cursor.{EndsWithKey, lent_pair};
 
@@ -9,50 +8,32 @@ use crate::cursor::RegionPair;
 use crate::entries::Entries;
 use crate::pair_columns::PairColumns;
 use mr_bytes::{Name, Value};
-use mr_group::Interner;
+use mr_group::KeyColumn;
 use std::alloc::{AllocError, Global};
 use std::marker::Model;
 
-/// Pairs with their names: numbered keys, and per pair its key's number, its value and its name.
-/// More than 4 Gi pairs fail as want of memory.
+/// Pairs with their names: the column of their keys, and per pair its value and its name. More than
+/// 4 Gi pairs fail as want of memory.
 #[derive(Drop)]
 pub struct Numbered {
     alloc: Global,
-    pub(crate) keys: Interner,
-    pub(crate) numbers: Vec<u32>,
+    pub(crate) keys: KeyColumn,
     pub(crate) entries: Entries,
 }
 
 impl Model for Numbered {
-    ghost use Rattle.std.specs.Prelude.{◌≡◌, ◌<◌, ◌≤◌, ◌^◌, All, List, length};
+    ghost use Rattle.std.specs.Prelude.{◌≡◌, ◌<◌, ◌^◌, List, length};
     ghost use Rattle.mr_bytes.specs.Pairs.{Triple};
-    ghost use Rattle.mr_spill.specs.Table.{numbered};
+    ghost use Rattle.mr_spill.specs.Table.{beside};
 
     ghost Value = { List Triple };
 
-    ghost view = { λ n. numbered n.keys n.numbers.items n.entries };
+    ghost view = { λ n. beside n.keys n.entries };
 
     ghost invariant = { λ n. record {
-      inside : All (λ i. i < length n.keys) n.numbers.items;
-      same : length n.entries ≡ length n.numbers.items;
-      known : length n.keys < 2 ^ 32;
-      few : length n.numbers.items < 2 ^ 32;
+      same : length n.entries ≡ length n.keys;
+      few : length n.keys < 2 ^ 32;
     } };
-}
-
-/// A number of the key, new if none is found. Fails only for want of memory, and then adds no key.
-fn number_of(alloc: Global, keys: &mut Interner, key: &[u8]) -> Result<u32, AllocError>
-    requires known { length keys.old < 2 ^ 32 }
-    ensures known { length keys.new < 2 ^ 32 }
-    ensures found { IfOk result (λ at. IsKeyAt keys.new at key.now) }
-    ensures grows { length keys.old ≤ length keys.new }
-    ensures stay { (i : ℕ) → i < length keys.old → key_at keys.new i ≡ key_at keys.old i }
-    ensures err { OnErr result (keys.new ≡ keys.old) }
-{
-    if keys.len() + 1 > u32::MAX as usize {
-        return Err(AllocError);
-    }
-    keys.number_of(alloc, key)
 }
 
 impl Numbered {
@@ -62,8 +43,7 @@ impl Numbered {
     {
         Numbered {
             alloc,
-            keys: Interner::new(alloc),
-            numbers: Vec::new(alloc),
+            keys: KeyColumn::new(alloc),
             entries: Entries::new(alloc),
         }
     }
@@ -72,14 +52,14 @@ impl Numbered {
     pub fn reserve(&mut self, more: usize) -> Result<(), AllocError>
         ensures { self.new ≡ self.old }
     {
-        self.numbers.reserve(more)?;
+        self.keys.reserve(more)?;
         self.entries.reserve(more)
     }
 
     pub fn len(&self) -> usize
         ensures { result ≡ length self.now }
     {
-        self.numbers.len()
+        self.keys.len()
     }
 
     /// Appends a pair. Fails only for want of memory, and then the pairs stay the same. Inlined:
@@ -90,14 +70,18 @@ impl Numbered {
             ≡ self.old ++ record { key = key.now; value = value; name = name } ∷ []) }
         ensures err { OnErr result (self.new ≡ self.old) }
     {
-        if self.numbers.len() + 1 > u32::MAX as usize {
+        let count = self.keys.len();
+        if count + 1 > u32::MAX as usize {
             return Err(AllocError);
         }
-        self.numbers.reserve(1)?;
-        let number = number_of(self.alloc, &mut self.keys, key)?;
         self.entries.push(value, name)?;
-        self.numbers.push_reserved(number);
-        Ok(())
+        match self.keys.push(self.alloc, key) {
+            Ok(()) => Ok(()),
+            Err(error) => {
+                self.entries.truncate(count);
+                Err(error)
+            }
+        }
     }
 
     /// Appends a pair with the last pair's key, without a look-up. A failure changes nothing.
@@ -108,22 +92,25 @@ impl Numbered {
             ≡ self.old ++ record { key = (nth_pair self.old (length self.old - 1)).key; value = value; name = name } ∷ []) }
         ensures err { OnErr result (self.new ≡ self.old) }
     {
-        if self.numbers.len() + 1 > u32::MAX as usize {
+        let count = self.keys.len();
+        if count + 1 > u32::MAX as usize {
             return Err(AllocError);
         }
-        let number = self.numbers[self.numbers.len() - 1];
-        self.numbers.reserve(1)?;
         self.entries.push(value, name)?;
-        self.numbers.push_reserved(number);
-        Ok(())
+        match self.keys.push_again() {
+            Ok(()) => Ok(()),
+            Err(error) => {
+                self.entries.truncate(count);
+                Err(error)
+            }
+        }
     }
 
-    /// Removes all pairs, and keeps the memory of numbers and names.
+    /// Removes all pairs, and keeps their memory.
     pub fn clear(&mut self)
         ensures { self.new ≡ [] }
     {
         self.keys.clear();
-        self.numbers.clear();
         self.entries.clear();
     }
 

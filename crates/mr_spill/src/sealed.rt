@@ -1,24 +1,19 @@
-//! Cuts the pairs of a run by partition into sorted regions, and writes these as bytes at once.
-ghost use Rattle.std.specs.Prelude.{◌≡◌, ◌+◌, ◌<◌, ◌≤◌, ◌++◌, [], IfOk, OnOk, OnErr};
-ghost use Rattle.std.specs.Prelude.{All, length, map, drop, slice_index_or};
+//! Cuts the pairs of a run by partition into sorted regions, and writes these as bytes at once: a
+//! header for each, and then each key's pairs behind what its partition has so far.
+ghost use Rattle.std.specs.Prelude.{◌≡◌, ℕ, ◌+◌, ◌<◌, ◌^◌, ◌++◌, [], IfOk, OnOk, OnErr};
+ghost use Rattle.std.specs.Prelude.{All, length, map, slice_index_or};
 ghost use Rattle.std.specs.List.{AllByRecursion, flat_map};
-ghost use Rattle.mr_bytes.specs.Lists.{Rises};
 ghost use Rattle.mr_partition.specs.Hosts.{partition_by};
-ghost use Rattle.mr_group.specs.Rows.{row_cmp};
-ghost use Rattle.mr_spill.specs.Regions.{RisesUnderKeys, region};
-ghost use Rattle.mr_spill.specs.Rows.{behind, front, pairs_in, row_pairs};
-ghost use Rattle.mr_spill.specs.Sealed.{AreFor, IsText, SpellsRun};
-ghost use Rattle.mr_spill.specs.Spelling.{PairFits, pair_bytes, value_bytes};
-ghost use Rattle.mr_spill.specs.Table.{pairs_under};
+ghost use Rattle.mr_spill.specs.Keyed.{nth_key, pairs_in, pairs_with};
+ghost use Rattle.mr_spill.specs.Regions.{region};
+ghost use Rattle.mr_spill.specs.Sealed.{HaveSizes, SpellsRun, nth_size, text_at};
+ghost use Rattle.mr_spill.specs.Spelling.{PairFits, header, pair_bytes, value_bytes};
 
 use crate::buffer::Buffer;
 use crate::cursor::RegionView;
-use crate::lists::Lists;
-use crate::numbered::Numbered;
-use crate::regions::{row_in, rows_with_lists};
+use crate::keyed::{KeyedPairs, cut_pairs};
 use crate::spelling::{put_header, put_pair};
 use mr_bytes::{By, Value};
-use mr_group::Row;
 use std::alloc::{AllocError, Global};
 use std::marker::Model;
 
@@ -70,47 +65,11 @@ impl SealedRun {
     }
 }
 
-fn spell_under(
-    out: &mut Vec<u8>,
-    key: &[u8],
-    lists: &Lists,
-    number: usize,
-) -> Result<(), AllocError>
-    requires { number < length lists.now }
-    ensures text { OnOk result (out.new.items
-        ≡ out.old.items ++ flat_map pair_bytes (pairs_under lists.now key.now number)) }
-    ensures fit { OnOk result (AllByRecursion PairFits (pairs_under lists.now key.now number)) }
-{
-    for i in 0..lists.count(number) {
-        let (value, name) = lists.get(number, i);
-        put_pair(out, key, value, name)?;
-    }
-    Ok(())
-}
-
-/// Writes the partition's rows from `from` on, and returns the place after them.
-fn spell_rows(
-    out: &mut Vec<u8>,
-    lists: &Lists,
-    rows: &[Row<'_>],
-    from: usize,
-    part: u32,
-) -> Result<usize, AllocError>
-    requires inside { All (λ r. r.number < length lists.now) rows.now }
-    requires from { from ≤ length rows.now }
-    ensures text { OnOk result (out.new.items ≡ out.old.items
-        ++ flat_map pair_bytes (row_pairs lists.now (front part (drop from rows.now)))) }
-    ensures fit { OnOk result
-        (AllByRecursion PairFits (row_pairs lists.now (front part (drop from rows.now)))) }
-    ensures rest { IfOk result
-        (λ at. (at ≤ length rows.now) × (drop at rows.now ≡ behind part (drop from rows.now))) }
-{
-    let mut at = from;
-    while let Some(row) = row_in(rows, at, part) {
-        spell_under(out, row.key, lists, row.number as usize)?;
-        at += 1;
-    }
-    Ok(at)
+/// How many pairs a region has, and how many bytes if all values of a key are of one kind.
+#[derive(Clone, Copy)]
+pub(crate) struct Size {
+    count: u32,
+    bytes: usize,
 }
 
 fn value_size(value: Value) -> usize
@@ -122,111 +81,86 @@ fn value_size(value: Value) -> usize
     }
 }
 
-/// The bytes of a key's pairs if all values are of one kind, saturating.
-fn room_under(key: &[u8], lists: &Lists, number: usize) -> usize
-    requires { number < length lists.now }
+/// The size with the pairs of key `k`. Over 4 Gi pairs fail as want of memory.
+fn with_key(size: Size, pairs: &KeyedPairs, k: usize) -> Result<Size, AllocError>
+    requires { k < length pairs.now }
+    ensures { IfOk result (λ s. s.count ≡ size.count + length (nth_key pairs.now k).entries) }
 {
-    let count = lists.count(number);
-    if count == 0 {
-        return 0;
-    }
-    let (value, _) = lists.get(number, 0);
-    let each = key.len().saturating_add(16 + value_size(value));
-    count.saturating_mul(each)
-}
-
-/// How many pairs the partition's rows from `from` on have, and their bytes.
-fn size_at(
-    lists: &Lists,
-    rows: &[Row<'_>],
-    from: usize,
-    part: u32,
-) -> Result<(u32, usize), AllocError>
-    requires inside { All (λ r. r.number < length lists.now) rows.now }
-    requires from { from ≤ length rows.now }
-    ensures { IfOk result (λ r. r.0 ≡ length (row_pairs lists.now (front part (drop from rows.now)))) }
-{
-    let mut count = 0u32;
-    let mut room = 20usize;
-    let mut at = from;
-    while let Some(row) = row_in(rows, at, part) {
-        count = counted(count, lists.count(row.number as usize))?;
-        room = room.saturating_add(room_under(row.key, lists, row.number as usize));
-        at += 1;
-    }
-    Ok((count, room))
-}
-
-fn counted(count: u32, more: usize) -> Result<u32, AllocError>
-    ensures { IfOk result (λ n. n ≡ count + more) }
-{
-    if more > (u32::MAX - count) as usize {
+    let more = pairs.count(k);
+    if more > (u32::MAX - size.count) as usize {
         return Err(AllocError);
     }
-    Ok(count + more as u32)
+    let (value, _) = pairs.get(k, 0);
+    let each = pairs.key(k).len().saturating_add(16 + value_size(value));
+    Ok(Size {
+        count: size.count + more as u32,
+        bytes: size.bytes.saturating_add(more.saturating_mul(each)),
+    })
 }
 
-/// The bytes of the partition's region, whose rows begin at `from`, and the place after them.
-fn text_at(
-    alloc: Global,
-    lists: &Lists,
-    rows: &[Row<'_>],
-    from: usize,
-    split: u32,
-    part: u32,
-) -> Result<(Vec<u8>, usize), AllocError>
-    requires inside { All (λ r. r.number < length lists.now) rows.now }
-    requires from { from ≤ length rows.now }
-    ensures region { IfOk result (λ r.
-        IsText split part (row_pairs lists.now (front part (drop from rows.now))) r.0.items) }
-    ensures rest { IfOk result
-        (λ r. (r.1 ≤ length rows.now) × (drop (r.1) rows.now ≡ behind part (drop from rows.now))) }
+/// The size of each partition's region.
+fn sizes_of(alloc: Global, pairs: &KeyedPairs, parts: u32) -> Result<Vec<Size>, AllocError>
+    requires parts { All (λ k. k.part < parts) pairs.now }
+    ensures count { IfOk result (λ v. length v.items ≡ parts) }
+    ensures sizes { IfOk result (λ v. HaveSizes pairs.now v.items) }
 {
-    let (count, room) = size_at(lists, rows, from, part)?;
-    let mut bytes = Vec::with_capacity(alloc, room)?;
-    put_header(&mut bytes, split, part, count)?;
-    let next = spell_rows(&mut bytes, lists, rows, from, part)?;
-    Ok((bytes, next))
+    let none = Size {
+        count: 0,
+        bytes: 20,
+    };
+    let mut sizes = vec![in alloc; none; parts as usize]?;
+    for k in 0..pairs.len() {
+        let part = pairs.part(k) as usize;
+        sizes[part] = with_key(sizes[part], pairs, k)?;
+    }
+    Ok(sizes)
 }
 
-fn texts_of(
-    alloc: Global,
-    lists: &Lists,
-    rows: &[Row<'_>],
-    split: u32,
-    parts: u32,
-) -> Result<Vec<Vec<u8>>, AllocError>
-    requires inside { All (λ r. r.number < length lists.now) rows.now }
-    requires rise { Rises row_cmp rows.now }
-    ensures { IfOk result (λ v.
-        AreFor (λ p. IsText split p (pairs_in lists.now rows.now p)) parts
-        (map (λ b. b.items) v.items)) }
+/// A header for each region, and room for the rest of it.
+fn headers(alloc: Global, sizes: &[Size], split: u32) -> Result<Vec<Vec<u8>>, AllocError>
+    requires { length sizes.now < 2 ^ 32 }
+    ensures count { IfOk result (λ v. length v.items ≡ length sizes.now) }
+    ensures headers { IfOk result (λ v. (p : ℕ) → p < length sizes.now
+        → text_at v.items p ≡ header split p (nth_size sizes.now p).count) }
 {
-    let mut texts = Vec::with_capacity(alloc, parts as usize)?;
-    let mut at = 0;
-    for part in 0..parts {
-        let (text, next) = text_at(alloc, lists, rows, at, split, part)?;
+    let mut texts = Vec::with_capacity(alloc, sizes.len())?;
+    for part in 0..sizes.len() {
+        let size = sizes[part];
+        let mut text = Vec::with_capacity(alloc, size.bytes)?;
+        put_header(&mut text, split, part as u32, size.count)?;
         texts.push(text)?;
-        at = next;
     }
     Ok(texts)
 }
 
-fn cut_texts(
-    alloc: Global,
-    pairs: &Numbered,
-    split: u32,
-    by: By,
-    parts: u32,
-) -> Result<Vec<Vec<u8>>, AllocError>
-    requires some { 0 < parts }
-    requires rise { RisesUnderKeys pairs.now }
-    ensures { IfOk result (λ v.
-        AreFor (λ p. IsText split p (region (λ k. partition_by by k parts) pairs.now p)) parts
-        (map (λ b. b.items) v.items)) }
+/// Appends the pairs of key `k`.
+fn spell_key(pairs: &KeyedPairs, k: usize, text: &mut Vec<u8>) -> Result<(), AllocError>
+    requires { k < length pairs.now }
+    ensures text { OnOk result (text.new.items
+        ≡ text.old.items ++ flat_map pair_bytes (pairs_with (nth_key pairs.now k))) }
+    ensures fit { OnOk result (AllByRecursion PairFits (pairs_with (nth_key pairs.now k))) }
 {
-    let (rows, lists) = rows_with_lists(alloc, pairs, by, parts)?;
-    texts_of(alloc, &lists, rows.as_slice(), split, parts)
+    let key = pairs.key(k);
+    for i in 0..pairs.count(k) {
+        let (value, name) = pairs.get(k, i);
+        put_pair(text, key, value, name)?;
+    }
+    Ok(())
+}
+
+/// Appends the pairs of each key to the text of its partition.
+fn spell_keys(pairs: &KeyedPairs, texts: &mut Vec<Vec<u8>>) -> Result<(), AllocError>
+    requires parts { All (λ k. k.part < length texts.old.items) pairs.now }
+    ensures count { length texts.new.items ≡ length texts.old.items }
+    ensures text { OnOk result ((p : ℕ) → p < length texts.old.items → text_at texts.new.items p
+        ≡ text_at texts.old.items p ++ flat_map pair_bytes (pairs_in pairs.now p)) }
+    ensures fit { OnOk result ((p : ℕ) → AllByRecursion PairFits (pairs_in pairs.now p)) }
+{
+    for k in 0..pairs.len() {
+        let text = &mut texts[pairs.part(k) as usize];
+        spell_key(pairs, k, text)?;
+    }
+    Ok(())
 }
 
 impl Buffer {
@@ -246,7 +180,10 @@ impl Buffer {
         ensures empty { OnOk result (self.new ≡ record { limit = self.old.limit; pairs = [] }) }
         ensures err { OnErr result (self.new ≡ self.old) }
     {
-        let regions = cut_texts(alloc, &self.pairs, split, by, parts)?;
+        let pairs = cut_pairs(alloc, &self.pairs, by, parts)?;
+        let sizes = sizes_of(alloc, &pairs, parts)?;
+        let mut regions = headers(alloc, sizes.as_slice(), split)?;
+        spell_keys(&pairs, &mut regions)?;
         self.pairs.clear();
         Ok(SealedRun { split, regions })
     }
