@@ -4,6 +4,7 @@ pub mod CutLemmas
 pub mod EntryLemmas
 pub mod KeyedLemmas
 pub mod ListsLemmas
+pub mod NameLemmas
 pub mod ReadingLemmas
 pub mod RegionLaws
 pub mod RowLemmas

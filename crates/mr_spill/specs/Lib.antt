@@ -13,3 +13,4 @@ pub mod Table
 pub mod WorkedBytes
 pub mod Sealed
 pub mod Stores
+pub mod ByName

@@ -10,6 +10,7 @@
 #![tactic(auto)]
 
 mod buffer;
+mod by_name;
 mod cursor;
 mod dir_store;
 mod entries;
