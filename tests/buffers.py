@@ -43,6 +43,12 @@ MERGED = [
         [(b"a", [None]), (b"b", [None, (3, 9), None, None])],
         [(0, 1), (0, 0), (0, 2), (1, 5), (2, 0)],
     ),
+    (
+        "two regions whose names alternate",
+        [[(b"a", None, 0, 0), (b"b", None, 0, 2)], [(b"a", None, 0, 3), (b"b", (1, 4), 0, 1)]],
+        [(b"a", [None, None]), (b"b", [(1, 4), None])],
+        [(0, 0), (0, 3), (0, 1), (0, 2)],
+    ),
     ("no region", [], [], []),
     ("regions without pairs", [[], []], [], []),
 ]
@@ -50,6 +56,8 @@ DAMAGED = [
     ("a region twice", [FIRST, FIRST]),
     ("a region that falls", [[(b"b", None, 0, 0), (b"a", None, 0, 1)]]),
     ("a name under two keys", [FIRST, [(b"c", None, 0, 2)]]),
+    ("a name under two keys of one region", [[(b"a", None, 0, 1), (b"b", None, 0, 1)]]),
+    ("a name of the first region in the third", [FIRST, [(b"a", None, 1, 0)], [(b"c", None, 0, 0)]]),
 ]
 # A region needs no order to be looked at.
 FALLING = [(b"b", None, 0, 7), (b"a", None, 0, 3)]

@@ -45,6 +45,14 @@ impl KeyColumn {
         self.numbers.len()
     }
 
+    /// The key of pair `i`, from 0.
+    pub fn get(&self, i: usize) -> &[u8]
+        requires { i < length self.now }
+        ensures { result.now ≡ key_at self.now i }
+    {
+        self.keys.get(self.numbers[i] as usize)
+    }
+
     /// Makes room for `more` pairs, but not for their keys. The pairs stay the same, even on failure.
     pub fn reserve(&mut self, more: usize) -> Result<(), AllocError>
         ensures { self.new ≡ self.old }

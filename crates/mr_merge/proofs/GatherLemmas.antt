@@ -13,9 +13,10 @@ use Rattle.mr_bytes.specs.Pairs.{Triple, pair_order}
 use Rattle.mr_bytes.proofs.ListLaws.{Distinct-append, Has-all, all_from_Has, Has-append_cases, Has-map, Has-map_from}
 use Rattle.mr_spill.specs.Column.{names_of}
 use Rattle.mr_spill.specs.Regions.{RisesUnderKeys}
-use Rattle.mr_merge.specs.Merging.{IsPast, IsUpTo, NamesDiffer}
+use Rattle.mr_merge.specs.Merged.{NamesDiffer}
+use Rattle.mr_merge.specs.Taking.{IsPast, IsUpTo}
 use Rattle.mr_spill.proofs.RegionLaws.{names_total}
-use Rattle.mr_merge.proofs.MergeLemmas.{name-tie}
+use Rattle.mr_spill.proofs.NameLemmas.{name-tie}
 
 pub All-weaker : {X : Type 0} (P Q : X → Type 0) (xs : List X) → ((x : X) → P x → Q x) → AllByRecursion P xs → AllByRecursion Q xs
 All-weaker P Q [] f all = tt
@@ -29,6 +30,15 @@ rising-under (t ∷ ts) r = (
       let tied : key_order t.key u.key ≡ Equal = ap (key_order t.key) e ∙ tied_itself nat_list_cmp_total t.key in
       sym (ap (λ o. ordering_then o (name_order t.name u.name)) tied) ∙ Has-all (λ w. pair_order t w ≡ Less) ts u r.0 h),
   rising-under ts r.1,
+)
+
+-- and so do pairs whose names rise
+pub by-name-under : (ts : List Triple) → Rises name_order (names_of ts) → RisesUnderKeys ts
+by-name-under [] r = tt
+by-name-under (t ∷ ts) r = (
+  all_from_Has (λ (u : Triple). u.key ≡ t.key → name_order t.name u.name ≡ Less) ts (λ u h e.
+      Has-all (λ n. name_order t.name n ≡ Less) (names_of ts) u.name r.0 (Has-map (λ (w : Triple). w.name) ts u h)),
+  by-name-under ts r.1,
 )
 
 under-append : (xs ys : List Triple) → RisesUnderKeys xs → RisesUnderKeys ys → ((t u : Triple) → Has xs t → Has ys u → name_order t.name u.name ≡ Less) → RisesUnderKeys (xs ++ ys)

@@ -1,5 +1,6 @@
 -- What merged groups are.
-use Rattle.std.proofs.Common.{◌≡◌, ◌↔◌, ℕ, List, [], ◌∷◌, map, filter, refl, ap, sym, ◌∙◌, subst, inl, inr}
+use Rattle.std.proofs.Common.{◌≡◌, ◌↔◌, ℕ, List, [], ◌∷◌, map, filter, refl, ap, sym, ◌∙◌, subst, inl, inr, IsPermutation, Option, Some}
+use Rattle.std.specs.Prelude.{MatchOption}
 use Rattle.std.proofs.lemmas.Cmp.{nat_list_cmp_total, tied_itself}
 use Rattle.std.specs.Str.{bytes_eq}
 use Rattle.std.specs.Cmp.Lexicographic.{bytes_decides}
@@ -12,12 +13,18 @@ use Rattle.mr_bytes.specs.Pairs.{Triple, pair_order}
 use Rattle.mr_bytes.proofs.ListLaws.{Has-all, all_from_Has, Has-filter, Has-filter_from, Has-map, Has-map_from, Rises-filter}
 use Rattle.mr_bytes.proofs.SortLaws.{sorted-Has, sorted-Has_from, sorted-rises}
 use Rattle.mr_spill.specs.Column.{names_of}
-use Rattle.mr_spill.proofs.RegionLaws.{pair_total}
+use Rattle.mr_spill.proofs.NameLemmas.{name-tie}
+use Rattle.mr_spill.proofs.RegionLaws.{pair_tie, pair_total}
+use Rattle.mr_group.proofs.ListLemmas.{Has-permutation, same_image}
+use Rattle.std.proofs.lemmas.List.Sorted.{IsPermutation-sym}
 use Rattle.mr_merge.specs.Laws.{GroupsHave, GroupsRise, MergedHas, MergedIsOne}
 use Rattle.mr_merge.specs.Merged.{Group, group_of, merged}
 use Rattle.mr_merge.proofs.GroupLemmas.{keys-no-ties}
-use Rattle.mr_merge.proofs.MergeLemmas.{distinct-no-ties}
 use Rattle.mr_merge.proofs.SortedLaws.{sorted-same}
+
+-- where names differ no two pairs stand at one place
+pub distinct-no-ties : (ts : List Triple) → Distinct (names_of ts) → HasNoTies pair_order ts
+distinct-no-ties ts d t u h g e = sym (same_image (λ (w : Triple). w.name) ts t u d h g (name-tie t.name u.name (pair_tie t u e)))
 
 group-keys : (ts : List Triple) (ks : List (List ℕ)) → map (λ (g : Group). g.key) (map (group_of ts) ks) ≡ ks
 group-keys ts [] = refl
@@ -82,3 +89,14 @@ pub merged-sorted : (pairs : List Triple) → Distinct (names_of pairs) → merg
 merged-sorted pairs d =
     let one : HasNoTies pair_order pairs = distinct-no-ties pairs d in
     sym (merged-same pairs (sorted pair_order pairs) one (λ t. (sorted-Has pair_order pairs one t, sorted-Has_from pair_order pairs t)))
+
+-- pairs whose names differ give the same groups in whatever order
+pub merged-permuted : (ps qs : List Triple) → Distinct (names_of ps) → IsPermutation ps qs → merged ps ≡ merged qs
+merged-permuted ps qs d p =
+    merged-same ps qs (distinct-no-ties ps d) (λ t. (Has-permutation ps qs t p, Has-permutation qs ps t (IsPermutation-sym ps qs p)))
+
+-- the pairs by name, where there is such a list
+pub by-name-some : (ts : List Triple) (o : Option (List Triple)) (us : List Triple) → o ≡ Some us
+    → MatchOption o (Distinct (names_of ts) → ⊥) (λ ns. Rises name_order (names_of ns) × IsPermutation ts ns) → Rises name_order (names_of us) × IsPermutation ts us
+by-name-some ts o us is m =
+    subst (λ (w : Option (List Triple)). MatchOption w (Distinct (names_of ts) → ⊥) (λ ns. Rises name_order (names_of ns) × IsPermutation ts ns)) is m

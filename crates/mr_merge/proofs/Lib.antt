@@ -1,5 +1,4 @@
 pub mod SortedLaws
-pub mod MergeLemmas
 pub mod SoundLemmas
 pub mod GroupLemmas
 pub mod LawLemmas

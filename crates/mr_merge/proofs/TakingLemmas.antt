@@ -1,7 +1,9 @@
 -- Regions taken pair by pair over their bytes.
-use Rattle.std.proofs.Common.{◌≡◌, ℕ, zero, suc, ◌+◌, ◌<◌, arith, get_or, Option, Some, None, List, [], ◌∷◌, ◌++◌, length, refl, sym, ◌∙◌, ap, subst, append_assoc, map}
+use Rattle.std.proofs.Common.{◌≡◌, ℕ, zero, suc, Bool, true, ◌+◌, ◌<◌, arith, get_or, Option, Some, None, List, [], ◌∷◌, ◌++◌, length, refl, sym, ◌∙◌, ap, subst, append_assoc, map}
 use Rattle.std.proofs.lemmas.List.{append-nil, flat_map_more, map-append}
 use Rattle.std.specs.List.{AllByRecursion}
+use Rattle.std.specs.Prelude.{IsTrue, MatchOption, ◌&&◌}
+use Rattle.std.proofs.lemmas.Bool.{and_parts}
 use Rattle.mr_bytes.specs.declared.Name.{Name}
 use Rattle.mr_bytes.specs.Lists.{Distinct, Has, Rises}
 use Rattle.mr_bytes.specs.Pairs.{Triple, pair_order}
@@ -13,13 +15,13 @@ use Rattle.mr_spill.specs.Lent.{RegionText}
 use Rattle.mr_spill.specs.Regions.{RisesUnderKeys}
 use Rattle.mr_spill.specs.Spelling.{SpellsRegion}
 use Rattle.mr_spill.proofs.ReadingLemmas.{spells-one}
-use Rattle.mr_merge.specs.declared.following.Gathering.{Gathering}
+use Rattle.mr_merge.specs.declared.reduction.Gathering.{Gathering}
 use Rattle.mr_merge.specs.Bytes.{AreSpelled}
-use Rattle.mr_merge.specs.Merged.{AreSound, joined}
-use Rattle.mr_merge.specs.Merging.{IsPast, IsUpTo, NamesDiffer}
+use Rattle.mr_merge.specs.Merged.{AreSound, NamesDiffer, joined}
 use Rattle.mr_bytes.proofs.ListLaws.{Has-map}
 use Rattle.mr_merge.specs.Distinct.{packed}
-use Rattle.mr_merge.specs.Taking.{AreTaken, IsBegun, IsTaken}
+use Rattle.mr_merge.specs.Reduction.{Collected, IsOfRegions}
+use Rattle.mr_merge.specs.Taking.{AreInTurn, IsBegun, IsPast, IsPut, IsTaken, IsUpTo}
 use Rattle.mr_merge.proofs.GatherLemmas.{All-weaker, differs, follows, later-last}
 use Rattle.mr_group.proofs.ListLemmas.{All-more}
 
@@ -34,28 +36,27 @@ none-some p e = cc e
 some-is : (p q : RegionPair) → Some p ≡ Some q → p ≡ q
 some-is p q e = cc e
 
-pub begun-more : (partition : ℕ) (region : RegionText) (old now new : Gathering) (cursor later : RegionCursor) (p : RegionPair)
-    → IsBegun partition region old now cursor → IsNextOf (lent_pair p) cursor later → later.last ≡ Some p
-    → new.pairs ≡ now.pairs ++ lent_pair p ∷ [] → EndsWithKey new.pairs p.key.now → IsPast old.last p.name
-    → ((n : Name) → IsUpTo now.last n → IsUpTo new.last n) → IsUpTo new.last p.name → IsBegun partition region old new later
-begun-more partition region old now new cursor later p b next last is key past up it = record {
+pub begun-more : (partition : ℕ) (region : RegionText) (was past : Bool) (old now new : Gathering) (cursor later : RegionCursor) (p : RegionPair)
+    → IsBegun partition region was old now cursor → IsNextOf (lent_pair p) cursor later → later.last ≡ Some p
+    → IsPut old.last p past now new → IsBegun partition region (was && past) old new later
+begun-more partition region was past old now new cursor later p b next last put = record {
   taken = b.taken ++ lent_pair p ∷ [];
   takes = record {
-    is = is ∙ ap (λ (l : List Triple). l ++ lent_pair p ∷ []) b.takes.is ∙ append_assoc old.pairs b.taken (lent_pair p ∷ []);
-    past = All-names (IsPast old.last) b.taken (lent_pair p) b.takes.past past;
-    before = λ n h. up n (b.takes.before n h);
-    up_to = All-names (IsUpTo new.last) b.taken (lent_pair p) (All-weaker (IsUpTo now.last) (IsUpTo new.last) (names_of b.taken) up b.takes.up_to) it;
+    is = put.is ∙ ap (λ (l : List Triple). l ++ lent_pair p ∷ []) b.takes.is ∙ append_assoc old.pairs b.taken (lent_pair p ∷ []);
+    past = λ both. let each = and_parts was past both in All-names (IsPast old.last) b.taken (lent_pair p) (b.takes.past each.0) (put.past each.1);
+    before = λ n h. put.up n (b.takes.before n h);
+    up_to = All-names (IsUpTo new.last) b.taken (lent_pair p) (All-weaker (IsUpTo now.last) (IsUpTo new.last) (names_of b.taken) put.up b.takes.up_to) put.it;
   };
   on = λ us a. subst (SpellsRegion region.bytes region.split partition) (sym (append_assoc b.taken (lent_pair p ∷ []) us)) (b.on (lent_pair p ∷ us) (next.on us a));
-  key = λ q e. subst (λ (r : RegionPair). EndsWithKey new.pairs r.key.now) (some-is p q (sym last ∙ e)) key;
+  key = λ q e. subst (λ (r : RegionPair). EndsWithKey new.pairs r.key.now) (some-is p q (sym last ∙ e)) put.key;
 }
 
 -- none was taken yet
 pub begun-start : (partition : ℕ) (region : RegionText) (all : Gathering) (cursor : RegionCursor) (bytes : List ℕ) (split : ℕ)
-    → IsOpened bytes split partition cursor → bytes ≡ region.bytes → split ≡ region.split → IsBegun partition region all all cursor
+    → IsOpened bytes split partition cursor → bytes ≡ region.bytes → split ≡ region.split → IsBegun partition region true all all cursor
 begun-start partition region all cursor bytes split o b s = record {
   taken = [];
-  takes = record { is = sym (append-nil all.pairs); past = tt; before = λ n h. h; up_to = tt };
+  takes = record { is = sym (append-nil all.pairs); past = λ _. tt; before = λ n h. h; up_to = tt };
   on = λ us a. subst (λ (w : ℕ). SpellsRegion region.bytes w partition us) s (subst (λ (l : List ℕ). SpellsRegion l split partition us) b (o.on us a));
   key = λ p e. absurd (none-some p (sym o.none ∙ e));
 }
@@ -65,30 +66,38 @@ distinct-from_map f [] d = tt
 distinct-from_map f (x ∷ xs) d = (λ h. d.0 (Has-map f xs x h), distinct-from_map f xs d.1)
 
 -- those that were taken have names of these numbers
-abbrev pub IsNamed : ℕ → RegionText → Gathering → Gathering → RegionCursor → List ℕ → Type 0
-IsNamed partition region old new cursor names = (b : IsBegun partition region old new cursor) × (names ≡ map packed (names_of b.taken))
+abbrev pub IsNamed : ℕ → RegionText → Bool → Gathering → Gathering → RegionCursor → List ℕ → Type 0
+IsNamed partition region in_turn old new cursor names = (b : IsBegun partition region in_turn old new cursor) × (names ≡ map packed (names_of b.taken))
 
 pub named-start : (partition : ℕ) (region : RegionText) (all : Gathering) (cursor : RegionCursor) (bytes : List ℕ) (split : ℕ)
-    → IsOpened bytes split partition cursor → bytes ≡ region.bytes → split ≡ region.split → IsNamed partition region all all cursor []
+    → IsOpened bytes split partition cursor → bytes ≡ region.bytes → split ≡ region.split → IsNamed partition region true all all cursor []
 unfolding begun-start
 named-start partition region all cursor bytes split o b s = (begun-start partition region all cursor bytes split o b s, refl)
 
-pub named-more : (partition : ℕ) (region : RegionText) (old now new : Gathering) (cursor later : RegionCursor) (p : RegionPair) (names : List ℕ)
-    → IsNamed partition region old now cursor names → IsNextOf (lent_pair p) cursor later → later.last ≡ Some p
-    → new.pairs ≡ now.pairs ++ lent_pair p ∷ [] → EndsWithKey new.pairs p.key.now → IsPast old.last p.name
-    → ((n : Name) → IsUpTo now.last n → IsUpTo new.last n) → IsUpTo new.last p.name → IsNamed partition region old new later (names ++ packed p.name ∷ [])
+pub named-more : (partition : ℕ) (region : RegionText) (was past : Bool) (old now new : Gathering) (cursor later : RegionCursor) (p : RegionPair) (names : List ℕ)
+    → IsNamed partition region was old now cursor names → IsNextOf (lent_pair p) cursor later → later.last ≡ Some p
+    → IsPut old.last p past now new → IsNamed partition region (was && past) old new later (names ++ packed p.name ∷ [])
 unfolding begun-more
-named-more partition region old now new cursor later p names b next last is key past up it = (
-  begun-more partition region old now new cursor later p b.0 next last is key past up it,
+named-more partition region was past old now new cursor later p names b next last put = (
+  begun-more partition region was past old now new cursor later p b.0 next last put,
   ap (λ (l : List ℕ). l ++ packed p.name ∷ []) b.1 ∙ sym (ap (map packed) (map-append (λ (u : Triple). u.name) b.0.taken (lent_pair p ∷ [])) ∙ map-append packed (names_of b.0.taken) (p.name ∷ [])),
 )
 
--- and here all were, and their names differ
-pub named-end : (partition : ℕ) (region : RegionText) (old new : Gathering) (cursor : RegionCursor) (names : List ℕ) → IsNamed partition region old new cursor names
-    → AreAhead cursor [] → Distinct names → IsTaken partition region old new
-named-end partition region old new cursor names b a d =
-    let spelled : SpellsRegion region.bytes region.split partition b.0.taken = subst (SpellsRegion region.bytes region.split partition) (append-nil b.0.taken) (b.0.on [] a) in
-    record { value = b.0.taken; takes = b.0.takes; spelled = spelled; differ = distinct-from_map packed (names_of b.0.taken) (subst Distinct b.1 d) }
+-- and here all were; where their numbers differ, their names do
+pub named-end : (partition : ℕ) (region : RegionText) (in_turn differ : Bool) (old new : Gathering) (cursor : RegionCursor) (names : List ℕ)
+    → IsNamed partition region in_turn old new cursor names → AreAhead cursor [] → (IsTrue differ → IsTrue in_turn × Distinct names) → IsTaken partition region differ old new
+named-end partition region in_turn differ old new cursor names b a d = record {
+  value = b.0.taken;
+  takes = record { is = b.0.takes.is; past = λ h. b.0.takes.past ((d h).0); before = b.0.takes.before; up_to = b.0.takes.up_to };
+  spelled = subst (SpellsRegion region.bytes region.split partition) (append-nil b.0.taken) (b.0.on [] a);
+  differ = λ h. distinct-from_map packed (names_of b.0.taken) (subst Distinct b.1 ((d h).1));
+}
+
+pub taken-some : (partition : ℕ) (region : RegionText) (old new : Gathering) (o : Option Bool) (in_turn : Bool) → o ≡ Some in_turn
+    → MatchOption o ((ts : List Triple) → SpellsRegion region.bytes region.split partition ts → ⊥) (λ t. IsTaken partition region t old new)
+    → IsTaken partition region in_turn old new
+taken-some partition region old new o in_turn is m =
+    subst (λ (w : Option Bool). MatchOption w ((ts : List Triple) → SpellsRegion region.bytes region.split partition ts → ⊥) (λ t. IsTaken partition region t old new)) is m
 
 -- ---- a region
 
@@ -99,19 +108,23 @@ spelled-more partition [] r (v ∷ vs) ts a s = absurd a
 spelled-more partition (q ∷ rs) r [] ts a s = absurd a
 spelled-more partition (q ∷ rs) r (v ∷ vs) ts a s = (a.0, spelled-more partition rs r vs ts a.1 s)
 
-pub taken-more : (partition : ℕ) (rs : List RegionText) (r : RegionText) (old new : Gathering) → AreTaken partition rs old → IsTaken partition r old new
-    → AreTaken partition (rs ++ r ∷ []) new
-taken-more partition rs r old new a t =
-    let more : joined a.values ++ t.value ≡ joined (a.values ++ t.value ∷ []) = flat_map_more (λ (l : List Triple). l) [] a.values t.value in
-    record {
-      values = a.values ++ t.value ∷ [];
-      spelled = spelled-more partition rs r a.values t.value a.spelled t.spelled;
-      is = t.takes.is ∙ ap (λ (l : List Triple). l ++ t.value) a.is ∙ more;
-      rise = subst RisesUnderKeys more (follows (joined a.values) t.value old.last a.rise t.spelled.rise a.up_to (names_of t.value) refl t.takes.past);
-      differ = subst NamesDiffer more (differs (joined a.values) t.value old.last a.differ t.differ a.up_to (names_of t.value) refl t.takes.past);
-      up_to = λ u h. later-last (joined a.values) t.value old.last new.last (names_of t.value) refl t.takes.before a.up_to t.takes.up_to u
-          (subst (λ (l : List Triple). Has l u) (sym more) h);
-    }
+-- regions that are in turn stay so with one more that is
+pub in_turn-more : (partition : ℕ) (r : RegionText) (in_turn : Bool) (old new : Gathering) → AreInTurn old → IsTrue in_turn → IsTaken partition r in_turn old new → AreInTurn new
+in_turn-more partition r in_turn old new a h t = record {
+  rise = subst RisesUnderKeys (sym t.takes.is) (follows old.pairs t.value old.last a.rise t.spelled.rise a.up_to (names_of t.value) refl (t.takes.past h));
+  differ = subst NamesDiffer (sym t.takes.is) (differs old.pairs t.value old.last a.differ (t.differ h) a.up_to (names_of t.value) refl (t.takes.past h));
+  up_to = λ u g. later-last old.pairs t.value old.last new.last (names_of t.value) refl t.takes.before a.up_to t.takes.up_to u
+      (subst (λ (l : List Triple). Has l u) t.takes.is g);
+}
+
+-- one more region was taken
+pub taken-more : (rs : List RegionText) (r : RegionText) (old new : Collected) (ts : List Triple) → IsOfRegions rs old → SpellsRegion r.bytes r.split old.partition ts
+    → new.partition ≡ old.partition → new.pairs ≡ old.pairs ++ ts → IsOfRegions (rs ++ r ∷ []) new
+taken-more rs r old new ts t s same is = record {
+  values = t.values ++ ts ∷ [];
+  spelled = subst (λ (p : ℕ). AreSpelled p (rs ++ r ∷ []) (t.values ++ ts ∷ [])) (sym same) (spelled-more old.partition rs r t.values ts t.spelled s);
+  is = is ∙ ap (λ (l : List Triple). l ++ ts) t.is ∙ flat_map_more (λ (l : List Triple). l) [] t.values ts;
+}
 
 -- ---- what regions spell
 

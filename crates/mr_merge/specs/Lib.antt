@@ -2,8 +2,7 @@ pub mod Merged
 pub mod Laws
 pub mod Worked
 pub mod Groups
-pub mod Merging
 pub mod Bytes
+pub mod Reduction
 pub mod Taking
-pub mod Following
 pub mod Distinct

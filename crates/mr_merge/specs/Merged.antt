@@ -21,10 +21,14 @@ values_of regions = map (λ r. r.now) regions
 abbrev pub joined : List (List Triple) → List Triple
 joined regions = flat_map (λ r. r) regions
 
--- each region is in order, and no name stands twice, under one key or two
+-- no name of the pairs stands twice, under one key or two
+abbrev pub NamesDiffer : List Triple → Type 0
+NamesDiffer ts = Distinct (names_of ts)
+
+-- each region is in order, and no name stands twice
 pub record AreSound (regions : List (List Triple)) : Type 0 where
   pub in_order : AllByRecursion (Rises pair_order) regions
-  pub names_differ : Distinct (names_of (joined regions))
+  pub names_differ : NamesDiffer (joined regions)
 
 -- the pairs of a key
 abbrev pub group_of : List Triple → List ℕ → Group

@@ -6,15 +6,15 @@ ghost use Rattle.mr_spill.specs.Regions.{RisesUnderKeys};
 ghost use Rattle.mr_bytes.specs.Lists.{sorted};
 ghost use Rattle.mr_bytes.specs.Pairs.{pair_order};
 ghost use Rattle.mr_merge.specs.Groups.{nth_group};
-ghost use Rattle.mr_merge.specs.Merged.{merged, AreSound, joined, values_of};
+ghost use Rattle.mr_merge.specs.Merged.{merged, AreSound, NamesDiffer, joined, values_of};
 ghost use Rattle.mr_merge.specs.Laws.{GroupsHave, GroupsRise, MergedHas, MergedIsOne};
 ghost use Rattle.mr_merge.specs.Worked.{WorkedFalling, WorkedGroups, WorkedTwice, WorkedTwoKeys};
 ghost use Rattle.mr_merge.specs.declared.merged.MergeFault.{MergeFault};
 ghost use Rattle.mr_merge.specs.declared.merged.MergeFault.TheVariants.{RegionDamaged};
 
-use crate::merging::{are_sound, merged_all};
+use crate::merging::{all_rise, put_all};
 use mr_bytes::{Name, Value};
-use mr_spill::{KeyedPairs, Numbered, PairColumns, keyed_column, keyed_pairs};
+use mr_spill::{KeyedPairs, Numbered, PairColumns, keyed_pairs};
 use std::alloc::{AllocError, Global};
 use std::marker::Model;
 use thiserror::Error;
@@ -87,12 +87,16 @@ pub(crate) fn grouped(alloc: Global, pairs: Numbered) -> Result<Groups, AllocErr
     Ok(Groups { keyed })
 }
 
-pub(crate) fn grouped_column(alloc: Global, pairs: &PairColumns) -> Result<Groups, AllocError>
-    requires { RisesUnderKeys pairs.now }
-    ensures { IfOk result (λ g. g ≡ merged (sorted pair_order pairs.now)) }
+/// Groups pairs in any order: sorts them by name before. `RegionDamaged` if a name occurs twice.
+pub(crate) fn grouped_by_name(alloc: Global, pairs: &Numbered) -> Result<Groups, MergeFault>
+    ensures differ { IfOk result (λ g. NamesDiffer pairs.now) }
+    ensures groups { IfOk result (λ g. g ≡ merged pairs.now) }
+    ensures damaged { IfErr result (λ e. e ≡ RegionDamaged → NamesDiffer pairs.now → ⊥) }
 {
-    let keyed = keyed_column(alloc, pairs)?;
-    Ok(Groups { keyed })
+    let Some(by_name) = pairs.in_name_order(alloc)? else {
+        return Err(MergeFault::RegionDamaged);
+    };
+    Ok(grouped(alloc, by_name)?)
 }
 
 /// Why regions are not merged.
@@ -123,11 +127,11 @@ pub fn merge(alloc: Global, regions: &[&PairColumns]) -> Result<Groups, MergeFau
     ensures groups { IfOk result (λ g. g ≡ merged (joined (values_of regions.now))) }
     ensures damaged { IfErr result (λ e. e ≡ RegionDamaged → AreSound (values_of regions.now) → ⊥) }
 {
-    if !are_sound(alloc, regions)? {
+    if !all_rise(regions) {
         return Err(MergeFault::RegionDamaged);
     }
-    let pairs = merged_all(alloc, regions)?;
-    Ok(grouped_column(alloc, &pairs)?)
+    let pairs = put_all(alloc, regions)?;
+    grouped_by_name(alloc, &pairs)
 }
 
 /// The keys of groups rise strictly. Where names differ, each group has exactly the pairs of its

@@ -1,13 +1,12 @@
 //! A worker: it asks for a task, does it, reports, and asks again.
 //!
 //!     map       records -> a piece, mostly one run -> a region a partition -> store; next piece
-//!     reduce    split by split: fetch -> its regions, one by one in a buffer -> Follower -> output
+//!     reduce    split by split: fetch -> its regions, one by one in a buffer -> Reduction -> output
 //!
 //! So a worker holds one run, or one region, at a time, whatever the size of a split. Stored
-//! regions have numbers, which the report of a map task carries and a fetch returns. Where names of
-//! regions do not follow one another, all are read again and merged whole. Bytes that are no region
-//! of this split and partition are damage: the worker reports it, and the map task is done again. A
-//! worker whose store fails is lost, as one whose machine fails.
+//! regions have numbers, which the report of a map task carries and a fetch returns. Bytes that are
+//! no region of this split and partition are damage: the worker reports it, and the map task is done
+//! again. A worker whose store fails is lost, as one whose machine fails.
 //! Cost: as the tasks; a lock for each ask, fetch and report.
 //! Source: OSDI 2004, sections 3.1 and 3.3.
 ghost use Rattle.std.specs.Prelude.{◌<◌};
@@ -19,15 +18,15 @@ use mr_bytes::{Gate, Progress};
 use mr_core::{Reply, Task};
 use mr_input::Input;
 use mr_script::Directive;
-use mr_spill::{GetFault, PutFault, RegionStore, RegionView, is_region};
+use mr_spill::{GetFault, PutFault, RegionStore, RegionView};
 use mr_splits::Plan;
 use mr_task::{
-    Came, Cancellation, Follower, MapOutput, MapTask, Place, ReduceOutput, Stored, TaskFault,
-    reduce_followed, reduce_task,
+    Cancellation, MapOutput, MapTask, Place, ReduceOutput, Reduction, Stored, TaskFault,
+    reduce_pairs,
 };
-use std::alloc::{AllocError, Global};
+use std::alloc::AllocError;
+use std::sync::Wait;
 use std::sync::ledger::Ledger;
-use std::sync::{Arc, Wait};
 
 #[derive(Clone, Copy, PartialEq, Eq)]
 enum Next {
@@ -52,12 +51,6 @@ pub(crate) struct WorkerEnd<L: Ledger> {
     pub refused: bool,
 }
 
-#[derive(Drop)]
-struct FetchedRegion {
-    split: u32,
-    bytes: Vec<u8>,
-}
-
 /// The end of a reduce attempt.
 #[derive(Drop)]
 enum ReduceResult {
@@ -68,17 +61,6 @@ enum ReduceResult {
     Gone,
     /// This split's stored regions can't be read.
     Damaged(u32),
-}
-
-fn region_views<'g>(
-    alloc: Global,
-    fetched: &'g [FetchedRegion],
-) -> Result<Vec<RegionView<'g>>, AllocError> {
-    let mut regions = Vec::with_capacity(alloc, fetched.len())?;
-    for one in fetched {
-        regions.push(RegionView::of(one.bytes.as_slice(), one.split))?;
-    }
-    Ok(regions)
 }
 
 /// The most pairs of an input: each takes two of its bytes, or ends a file.
@@ -213,89 +195,33 @@ impl<'s, L: Ledger, G: Gate, W: Progress, S: RegionStore, R: Wait> Worker<'s, L,
         }
     }
 
-    /// Fetches a split's regions of a partition; false if one can't be read or isn't theirs.
-    fn fetch_regions(
+    /// Passes a split's regions to the reduction, one after another in `bytes`; false if one can't
+    /// be read or isn't of the split and the partition.
+    fn take_split(
         &self,
         stored: &Stored,
         split: u32,
-        partition: u32,
-        fetched: &mut Vec<FetchedRegion>,
+        bytes: &mut Vec<u8>,
+        reduction: &mut Reduction,
     ) -> Result<bool, AllocError> {
+        let partition = reduction.partition();
         if partition >= stored.parts() {
             return Ok(false);
         }
         for run in 0..stored.runs() {
-            let mut bytes = Vec::new(self.shared.alloc);
-            if !self.read_region(stored.place(partition, run), &mut bytes)? {
+            bytes.clear();
+            if !self.read_region(stored.place(partition, run), bytes)? {
                 return Ok(false);
             }
-            if !is_region(bytes.as_slice(), split, partition) {
-                return Ok(false);
-            }
-            fetched.push(FetchedRegion { split, bytes })?;
-        }
-        Ok(true)
-    }
-
-    /// Passes a split's regions of a partition to the follower, one after another in `region`;
-    /// false if one can't be read or isn't theirs.
-    fn follow(
-        &self,
-        stored: &Stored,
-        partition: u32,
-        region: &mut FetchedRegion,
-        follower: &mut Follower,
-    ) -> Result<bool, AllocError> {
-        if partition >= stored.parts() {
-            return Ok(false);
-        }
-        for run in 0..stored.runs() {
-            region.bytes.clear();
-            if !self.read_region(stored.place(partition, run), &mut region.bytes)? {
-                return Ok(false);
-            }
-            let (bytes, split) = (region.bytes.as_slice(), region.split);
-            if follower.is_whole() {
-                if let Came::Damaged = follower.take(&RegionView::of(bytes, split))? {
-                    return Ok(false);
-                }
-            } else if !is_region(bytes, split, partition) {
+            if !reduction.take(&RegionView::of(bytes.as_slice(), split))? {
                 return Ok(false);
             }
         }
         Ok(true)
     }
 
-    /// Reduces a partition with all regions in memory.
-    fn reduce_whole(
-        &self,
-        partition: u32,
-        outputs: &[Arc<Stored>],
-    ) -> Result<ReduceResult, AllocError> {
-        let shared = self.shared;
-        let mut fetched = Vec::new(shared.alloc);
-        let mut split = 0u32;
-        for stored in outputs {
-            if !self.fetch_regions(stored, split, partition, &mut fetched)? {
-                return Ok(ReduceResult::Damaged(split));
-            }
-            split = split.saturating_add(1);
-        }
-        let regions = region_views(shared.alloc, fetched.as_slice())?;
-        match reduce_task(
-            shared.alloc,
-            shared.request.job(),
-            partition,
-            regions.as_slice(),
-        ) {
-            Ok(output) => Ok(ReduceResult::Output(output)),
-            Err(TaskFault::OutOfMemory) => Err(AllocError),
-            Err(TaskFault::RegionDamaged) => Ok(ReduceResult::Damaged(0)),
-        }
-    }
-
-    /// Fetches each split's output and takes its regions one at a time. If their names are out of
-    /// order, it fetches all again.
+    /// Fetches each split's output, and takes its regions one at a time. If no region is damaged and
+    /// the task can't be done, it is split 0 that is done again.
     fn fetch_and_reduce(
         &mut self,
         attempt: u32,
@@ -303,10 +229,8 @@ impl<'s, L: Ledger, G: Gate, W: Progress, S: RegionStore, R: Wait> Worker<'s, L,
     ) -> Result<ReduceResult, AllocError> {
         let shared = self.shared;
         let demand = shared.completed.demand(Task::Reduce(partition));
-        let mut follower = Follower::new(shared.alloc, partition);
-        let (split, bytes) = (0, Vec::new(shared.alloc));
-        let mut region = FetchedRegion { split, bytes };
-        let mut outputs = Vec::new(shared.alloc);
+        let mut reduction = Reduction::new(shared.alloc, partition);
+        let mut bytes = Vec::new(shared.alloc);
         for split in 0..shared.plan.splits() {
             if !demand.is_wanted() {
                 return Ok(ReduceResult::Unwanted);
@@ -314,18 +238,17 @@ impl<'s, L: Ledger, G: Gate, W: Progress, S: RegionStore, R: Wait> Worker<'s, L,
             let Some(stored) = self.fetch(attempt, split)? else {
                 return Ok(ReduceResult::Gone);
             };
-            region.split = split;
-            if !self.follow(&stored, partition, &mut region, &mut follower)? {
+            if !self.take_split(&stored, split, &mut bytes, &mut reduction)? {
                 return Ok(ReduceResult::Damaged(split));
             }
-            outputs.push(stored)?;
             if split == 0 {
-                follower.reserve(guess_pairs(follower.len(), shared.plan))?;
+                reduction.reserve(guess_pairs(reduction.len(), shared.plan))?;
             }
         }
-        match reduce_followed(shared.alloc, shared.request.job(), follower)? {
-            Some(output) => Ok(ReduceResult::Output(output)),
-            None => self.reduce_whole(partition, outputs.as_slice()),
+        match reduce_pairs(shared.alloc, shared.request.job(), reduction) {
+            Ok(output) => Ok(ReduceResult::Output(output)),
+            Err(TaskFault::OutOfMemory) => Err(AllocError),
+            Err(TaskFault::RegionDamaged) => Ok(ReduceResult::Damaged(0)),
         }
     }
 

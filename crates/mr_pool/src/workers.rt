@@ -166,8 +166,6 @@ pub(crate) struct UntilComplete<'a> {
 }
 
 impl<'a> Cancellation for UntilComplete<'a> {
-    ghost unending = { ⊥ };
-
     fn is_wanted(&self) -> bool {
         match self.flag {
             Some(flag) => !flag.load(Ordering::SeqCst),

@@ -5,7 +5,7 @@
 use crate::regions::{bytes_of, numbers_of};
 use crate::telling::Teller;
 use mr_bytes::{Name, Value};
-use mr_merge::{Groups, MergeFault, merge, merge_regions};
+use mr_merge::{Groups, MergeFault, Reduction, merge};
 use mr_spill::{PairColumns, RegionView};
 use std::alloc::{AllocError, Global};
 use std::io;
@@ -54,9 +54,9 @@ fn add_regions(teller: &Teller, regions: &mut Vec<PairColumns>) -> io::Result<()
 }
 
 fn show_region(teller: &Teller, region: &PairColumns) -> Result<(), AllocError> {
-    let roomy = PairColumns::with_room_for(teller.alloc(), region, region)?;
+    let none = PairColumns::new(teller.alloc());
     teller.before(&region.names(), " ");
-    teller.two(&roomy.len(), &roomy.names());
+    teller.two(&none.len(), &none.names());
     Ok(())
 }
 
@@ -156,9 +156,20 @@ fn regions_of(alloc: Global, all: &[Spelled]) -> Result<Vec<RegionView<'_>>, All
     Ok(regions)
 }
 
+/// The groups of regions that are taken one by one.
+fn reduced(alloc: Global, regions: &[RegionView<'_>]) -> Result<Groups, MergeFault> {
+    let mut reduction = Reduction::new(alloc, 0);
+    for region in regions {
+        if !reduction.take(region)? {
+            return Err(MergeFault::RegionDamaged);
+        }
+    }
+    reduction.groups(alloc)
+}
+
 fn show_bytes(teller: &Teller, all: &[Spelled]) -> Result<(), AllocError> {
     let regions = regions_of(teller.alloc(), all)?;
-    show_merged(teller, merge_regions(teller.alloc(), regions.as_slice(), 0));
+    show_merged(teller, reduced(teller.alloc(), regions.as_slice()));
     Ok(())
 }
 

@@ -3,6 +3,7 @@ pub mod CursorLemmas
 pub mod CutLemmas
 pub mod EntryLemmas
 pub mod KeyedLemmas
+pub mod NameLemmas
 pub mod PlaceLemmas
 pub mod ReadingLemmas
 pub mod RegionLaws

@@ -12,3 +12,4 @@ pub mod Table
 pub mod WorkedBytes
 pub mod Sealed
 pub mod Stores
+pub mod ByName

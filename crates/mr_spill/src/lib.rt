@@ -10,6 +10,7 @@
 #![tactic(auto)]
 
 mod buffer;
+mod by_name;
 mod cursor;
 mod dir_store;
 mod entries;
@@ -26,7 +27,7 @@ mod store;
 pub use buffer::{Buffer, PushFault, PushKeyFault};
 pub use cursor::{RegionCursor, RegionPair, RegionView, is_region, open_region};
 pub use dir_store::{DirStore, DiskScratch, MemoryScratch, Scratch, ScratchFault};
-pub use keyed::{KeyedPairs, keyed_column, keyed_pairs};
+pub use keyed::{KeyedPairs, keyed_pairs};
 pub use numbered::Numbered;
 pub use pair_columns::PairColumns;
 pub use reading::{RegionFault, read_region};

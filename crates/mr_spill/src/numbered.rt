@@ -6,7 +6,6 @@ ghost use Rattle.mr_spill.specs.Cursor.{EndsWithKey, lent_pair};
 
 use crate::cursor::RegionPair;
 use crate::entries::Entries;
-use crate::pair_columns::PairColumns;
 use mr_bytes::{Name, Value};
 use mr_group::KeyColumn;
 use std::alloc::{AllocError, Global};
@@ -114,21 +113,6 @@ impl Numbered {
         self.entries.clear();
     }
 
-    /// Appends pair `i` of a column, after pair `i - 1`: a repeated key needs no look-up.
-    fn take_next(&mut self, column: &PairColumns, i: usize) -> Result<(), AllocError>
-        requires within { i < length column.now }
-        requires last { 0 < i → (0 < length self.old)
-            × ((nth_pair self.old (length self.old - 1)).key ≡ (nth_pair column.now (i - 1)).key) }
-        ensures { OnOk result (self.new ≡ self.old ++ nth_pair column.now i ∷ []) }
-    {
-        let value = column.value(i);
-        let name = column.name(i);
-        if i > 0 && column.is_same_key(i - 1, i) {
-            return self.push_again(value, name);
-        }
-        self.push(column.key(i), value, name)
-    }
-
     /// Appends a pair of a region; a repeated key needs no look-up. Fails only for want of memory.
     #[inline(always)]
     pub fn take(&mut self, pair: RegionPair<'_>) -> Result<(), AllocError>
@@ -140,14 +124,5 @@ impl Numbered {
             return self.push_again(pair.value, pair.name);
         }
         self.push(pair.key, pair.value, pair.name)
-    }
-
-    pub(crate) fn take_column(&mut self, column: &PairColumns) -> Result<(), AllocError>
-        ensures { OnOk result (self.new ≡ self.old ++ column.now) }
-    {
-        for i in 0..column.len() {
-            self.take_next(column, i)?;
-        }
-        Ok(())
     }
 }

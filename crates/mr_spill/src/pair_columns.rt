@@ -7,7 +7,7 @@ ghost use Rattle.std.specs.Prelude.{◌≡◌, ◌↔◌, ◌+◌, ◌-◌, ◌+
 ghost use Rattle.std.specs.Prelude.{OnErr, length};
 ghost use Rattle.mr_spill.specs.Column.{names_of, nth_pair};
 
-use mr_bytes::{Name, Span, Value, ValueColumn, is_same_span};
+use mr_bytes::{Name, Span, Value, ValueColumn};
 use std::alloc::{AllocError, Global};
 use std::marker::Model;
 
@@ -66,35 +66,6 @@ impl PairColumns {
         }
     }
 
-    /// No pairs, and room for `count` with `bytes` of keys, shared bytes counted once.
-    pub(crate) fn with_room(
-        alloc: Global,
-        count: usize,
-        bytes: usize,
-    ) -> Result<PairColumns, AllocError>
-        ensures { IfOk result (λ p. p ≡ []) }
-    {
-        Ok(PairColumns {
-            keys: Vec::with_capacity(alloc, bytes)?,
-            spans: Vec::with_capacity(alloc, count)?,
-            values: ValueColumn::new(alloc),
-            names: Vec::with_capacity(alloc, count)?,
-        })
-    }
-
-    /// No pairs, and room for those of two columns. Fails only for want of memory.
-    pub fn with_room_for(
-        alloc: Global,
-        first: &PairColumns,
-        second: &PairColumns,
-    ) -> Result<PairColumns, AllocError>
-        ensures { IfOk result (λ p. p ≡ []) }
-    {
-        let count = first.spans.len().saturating_add(second.spans.len());
-        let bytes = first.keys.len().saturating_add(second.keys.len());
-        PairColumns::with_room(alloc, count, bytes)
-    }
-
     pub fn len(&self) -> usize
         ensures { result ≡ length self.now }
     {
@@ -108,15 +79,6 @@ impl PairColumns {
     {
         let span = self.spans[i];
         &self.keys[span.start as usize..span.end as usize]
-    }
-
-    /// Whether pairs `i` and `j`, from 0, have the same key. It doesn't read a key that they share.
-    pub fn is_same_key(&self, i: usize, j: usize) -> bool
-        requires first { i < length self.now }
-        requires second { j < length self.now }
-        ensures { IsTrue result ↔ ((nth_pair self.now i).key ≡ (nth_pair self.now j).key) }
-    {
-        is_same_span(self.spans[i], self.spans[j]) || self.key(i) == self.key(j)
     }
 
     /// The value of pair `i`, from 0.
@@ -140,14 +102,6 @@ impl PairColumns {
         ensures { result.now ≡ names_of self.now }
     {
         &self.names
-    }
-
-    /// The names of all pairs, in order; the rest is freed.
-    pub fn into_names(self) -> Vec<Name>
-        ensures { result.items ≡ names_of self }
-    {
-        let PairColumns { names, .. } = self;
-        names
     }
 
     /// Appends a pair. Fails only for want of memory, and then nothing has changed.

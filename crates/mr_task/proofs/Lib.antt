@@ -1,5 +1,4 @@
 pub mod LeftOutLemmas
-pub mod FollowLemmas
 pub mod OutputLemmas
 pub mod RunLemmas
 pub mod SourceLemmas

@@ -1,6 +1,6 @@
 -- What a reduce task gives: texts, counts and names of groups.
-use Rattle.std.proofs.Common.{◌≡◌, ℕ, zero, suc, ◌+◌, ◌<◌, ◌≤◌, Bool, true, false, cond, All, Option, Some, List, [], ◌∷◌, ◌++◌, length, get_or, take, drop, map, filter, refl, sym, ap, ◌∙◌, arith, length-append, subst}
-use Rattle.std.proofs.lemmas.List.{append-nil, length-map, take-append-drop, take_more}
+use Rattle.std.proofs.Common.{◌≡◌, ℕ, zero, suc, ◌+◌, ◌<◌, ◌≤◌, Bool, true, false, cond, All, List, [], ◌∷◌, ◌++◌, length, get_or, take, drop, map, filter, refl, sym, ap, ◌∙◌, arith, length-append}
+use Rattle.std.proofs.lemmas.List.{append-nil, length-map, take_more}
 use Rattle.std.proofs.lemmas.List.Elements.{All-map}
 use Rattle.std.proofs.Math.Seq.{drop-append_seam, take-append_seam}
 use Rattle.std.specs.Ordering.{match_ordering}
@@ -14,17 +14,17 @@ use Rattle.std.specs.List.{AllByRecursion, flat_map}
 use Rattle.mr_bytes.specs.declared.Name.{Name}
 use Rattle.mr_bytes.specs.declared.Value.{Value}
 use Rattle.mr_certform.specs.Flat.{chunks, total}
-use Rattle.mr_merge.specs.Bytes.{AreMerged, AreSpelled}
+use Rattle.mr_merge.specs.Reduction.{Collected, IsOfRegions}
+use Rattle.mr_merge.proofs.TakingLemmas.{spelled-one}
 use Rattle.mr_merge.specs.Merged.{Group, group_of, joined, merged}
 use Rattle.mr_merge.specs.Groups.{no_group, nth_group}
 use Rattle.mr_sequential.specs.Rules.{Key, Text}
 use Rattle.mr_sequential.proofs.SourceLemmas.{flat_map-append}
 use Rattle.mr_spill.specs.Column.{names_of}
 use Rattle.mr_spill.specs.Lent.{RegionText}
-use Rattle.mr_spill.specs.Spelling.{SpellsRegion}
-use Rattle.std.specs.Prelude.{MatchOption, slice_index_or, slice_set}
+use Rattle.std.specs.Prelude.{slice_index_or, slice_set}
 use Rattle.mr_task.specs.Outputs.{flipped, with_other_bit}
-use Rattle.mr_task.specs.Values.{group_text}
+use Rattle.mr_task.specs.Values.{CanMerge, group_text}
 
 -- ---- counts with names
 
@@ -64,38 +64,7 @@ texts-more text gs g h =
     ∙ flat_map-append (group_text text) (take g gs) (one ∷ [])
     ∙ ap (λ (l : Text). flat_map (group_text text) (take g gs) ++ l) (append-nil (group_text text one))
 
--- ---- how many pairs there are
-
-pub joined-more : (rs : List (List Triple)) (i : ℕ) → i < length rs
-    → length (joined (take (i + 1) rs)) ≡ length (joined (take i rs)) + length (get_or rs i [])
-joined-more rs i h =
-    let one : List Triple = get_or rs i [] in
-    let all : joined (take (i + 1) rs) ≡ joined (take i rs) ++ one =
-    ap joined (take_more rs i [] h)
-    ∙ flat_map-append (λ (l : List Triple). l) (take i rs) (one ∷ [])
-    ∙ ap (λ (l : List Triple). joined (take i rs) ++ l) (append-nil one) in
-    ap length all ∙ length-append (joined (take i rs)) one
-
-pub joined-all : (rs : List (List Triple)) (i : ℕ) → length (joined (take i rs)) ≤ length (joined rs)
-joined-all rs i =
-    let all : joined rs ≡ joined (take i rs) ++ joined (drop i rs) =
-    ap joined (sym (take-append-drop i rs)) ∙ flat_map-append (λ (l : List Triple). l) (take i rs) (drop i rs) in
-    omega (arith, ap length all, length-append (joined (take i rs)) (joined (drop i rs)))
-
--- ---- what regions spell
-
-pub spelled-length : (partition : ℕ) (rs : List RegionText) (values : List (List Triple)) → AreSpelled partition rs values → length values ≡ length rs
-spelled-length partition [] [] s = refl
-spelled-length partition [] (v ∷ vs) s = absurd s
-spelled-length partition (r ∷ rs) [] s = absurd s
-spelled-length partition (r ∷ rs) (v ∷ vs) s = omega (arith, spelled-length partition rs vs s.1)
-
-pub spelled-item : (partition : ℕ) (rs : List RegionText) (values : List (List Triple)) (i : ℕ) (d : RegionText) → AreSpelled partition rs values → i < length rs
-    → SpellsRegion (get_or rs i d).bytes (get_or rs i d).split partition (get_or values i [])
-spelled-item partition [] values i d s h = absurd (omega (arith, h))
-spelled-item partition (r ∷ rs) [] i d s h = absurd s
-spelled-item partition (r ∷ rs) (v ∷ vs) zero d s h = s.0
-spelled-item partition (r ∷ rs) (v ∷ vs) (suc i) d s h = spelled-item partition rs vs i d s.1 (omega (arith, h))
+-- ---- how many pairs a group has
 
 placed-length : {X : Type 0} (cmp : X → X → Ordering) (x : X) (ys : List X) → length (placed cmp x ys) ≤ length ys + 1
 placed-length cmp x [] = omega arith
@@ -127,24 +96,11 @@ groups-few pairs n h =
 
 -- ---- how many groups there are
 
-length-placed : {X : Type 0} (cmp : X → X → Ordering) (x : X) (ys : List X) → length (placed cmp x ys) ≤ length ys + 1
-length-placed cmp x [] = omega arith
-length-placed cmp x (y ∷ ys) = by (cmp x y) (length-placed cmp x ys)
-  where
-    by : (o : Ordering) → length (placed cmp x ys) ≤ length ys + 1 → length (match_ordering o (x ∷ y ∷ ys) (y ∷ ys) (y ∷ placed cmp x ys)) ≤ length (y ∷ ys) + 1
-    by Less rest = omega arith
-    by Equal rest = omega arith
-    by Greater rest = omega (arith, rest)
-
-length-sorted : {X : Type 0} (cmp : X → X → Ordering) (xs : List X) → length (sorted cmp xs) ≤ length xs
-length-sorted cmp [] = omega arith
-length-sorted cmp (x ∷ xs) = omega (arith, length-placed cmp x (sorted cmp xs), length-sorted cmp xs)
-
 -- no more than pairs
 pub groups-count : (ps : List Triple) → length (merged ps) ≤ length ps
 groups-count ps =
     let keys : List Key = map (λ (t : Triple). t.key) ps in
-    omega (arith, length-map (sorted key_order keys) (group_of (sorted pair_order ps)), length-sorted key_order keys, length-map ps (λ (t : Triple). t.key))
+    omega (arith, length-map (sorted key_order keys) (group_of (sorted pair_order ps)), sorted-length key_order keys, length-map ps (λ (t : Triple). t.key))
 
 -- ---- a bit of a byte
 
@@ -158,8 +114,8 @@ flipped-past place [] l = refl
 flipped-past zero (b ∷ bs) l = absurd (omega arith)
 flipped-past (suc place) (b ∷ bs) l = ap (λ (xs : List ℕ). b ∷ xs) (flipped-past place bs (omega arith))
 
--- ---- merged groups that are there
+-- ---- pairs of regions
 
-pub some-merged : (partition : ℕ) (regions : List RegionText) (unending : Type 0) (o : Option (List Group)) (groups : List Group) → o ≡ Some groups
-    → MatchOption o (unending → ⊥) (AreMerged partition regions) → AreMerged partition regions groups
-some-merged partition regions unending o groups e m = subst (λ (w : Option (List Group)). MatchOption w (unending → ⊥) (AreMerged partition regions)) e m
+-- regions that can be merged have just the pairs that were taken of them
+pub pairs-of : (regions : List RegionText) (c : Collected) → IsOfRegions regions c → (can : CanMerge c.partition regions) → c.pairs ≡ joined can.values
+pairs-of regions c h can = h.is ∙ ap joined (sym (spelled-one c.partition regions h.values can.values h.spelled can.spelled))

@@ -3,15 +3,14 @@
 //! each group's text. Results depend only on the pairs, not on how they are cut into lists.
 #![tactic(auto)]
 
+mod cancellation;
 mod map;
 mod output;
 mod reduce;
 mod runs;
 
+pub use cancellation::{Cancellation, NeverCancelled};
 pub use map::{MapTask, map_task, map_task_with};
-pub use mr_merge::{Came, Cancellation, Follower, NeverCancelled};
+pub use mr_merge::Reduction;
 pub use output::{GroupNames, MapOutput, Place, ReduceOutput, Stored};
-pub use reduce::{
-    TaskFault, map_values_law, pieces_law, reduce_followed, reduce_task, reduce_task_while,
-    worked_tasks,
-};
+pub use reduce::{TaskFault, map_values_law, pieces_law, reduce_pairs, reduce_task, worked_tasks};

@@ -9,11 +9,11 @@ ghost use Rattle.mr_task.specs.Runs.{AreAlike, AreOf, HasTaken};
 ghost use Rattle.mr_task.specs.Tasks.{IsMapTask, IsPieceOf, between, record_count, records_in};
 ghost use Rattle.mr_task.specs.Values.{emitted_in};
 
+use crate::cancellation::{Cancellation, NeverCancelled};
 use crate::output::MapOutput;
 use crate::runs::{Runs, has, in_order};
 use mr_bytes::{By, RecordName};
 use mr_jobs::{Job, Request};
-use mr_merge::{Cancellation, NeverCancelled};
 use mr_splits::Plan;
 use std::alloc::{AllocError, Global};
 use std::marker::Model;

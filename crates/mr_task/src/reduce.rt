@@ -1,13 +1,9 @@
 //! Reduce tasks and their faults, and laws of the values of both kinds of task.
-ghost use Rattle.std.specs.Prelude.{◌≡◌, ◌≤◌, ◌<◌, List, IfErr, IfOk, IfSome, MatchOption, length};
-ghost use Rattle.std.specs.Prelude.{◌↔◌, false, [], ◌∷◌};
-ghost use Rattle.mr_bytes.specs.Pairs.{Triple};
-ghost use Rattle.mr_merge.specs.Bytes.{AreSpelled};
-ghost use Rattle.mr_merge.specs.Following.{HasTaken};
-ghost use Rattle.mr_merge.specs.Merged.{joined, AreSound};
+ghost use Rattle.std.specs.Prelude.{◌≡◌, ◌↔◌, ◌≤◌, ◌<◌, List, IfErr, IfOk, false, [], ◌∷◌};
+ghost use Rattle.mr_merge.specs.Merged.{AreSound};
+ghost use Rattle.mr_merge.specs.Reduction.{IsOfRegions};
 ghost use Rattle.mr_reduce.specs.Text.{text_of};
 ghost use Rattle.mr_spill.specs.Lent.{RegionText};
-ghost use Rattle.mr_spill.specs.Spelling.{SpellsRegion};
 ghost use Rattle.mr_task.specs.Values.{CanMerge, IsReduced, IsCutOf, map_value, reduce_value};
 ghost use Rattle.mr_task.specs.declared.reduce.TaskFault.TheVariants.{RegionDamaged};
 ghost use Rattle.mr_jobs.specs.JobSpec.{WordCount};
@@ -17,8 +13,8 @@ ghost use Rattle.mr_task.specs.Worked.{only_partition, second_run};
 
 use crate::output::ReduceOutput;
 use mr_jobs::Job;
-use mr_merge::{Cancellation, Follower, MergeFault, NeverCancelled, merge_regions_while};
-use mr_spill::{RegionView, open_region};
+use mr_merge::{MergeFault, Reduction};
+use mr_spill::RegionView;
 use std::alloc::{AllocError, Global};
 use thiserror::Error;
 
@@ -28,38 +24,27 @@ const MAX_PAIRS: usize = 1_073_741_824;
 // The number in the definition.
 const _: () = prove!(MAX_PAIRS == 1073741824);
 
-fn count_in(region: &RegionView<'_>, partition: u32) -> Option<usize>
-    ensures { MatchOption result ((ts : List Triple)
-        → SpellsRegion region.now.bytes region.now.split partition ts → ⊥)
-        (λ n. (ts : List Triple) → SpellsRegion region.now.bytes region.now.split partition ts
-        → n ≡ length ts) }
-{
-    let Some(cursor) = open_region(region.bytes(), region.split(), partition) else {
-        return None;
-    };
-    Some(cursor.left() as usize)
+/// The fewest bytes that a region spends on a pair.
+const PAIR_BYTES: usize = 17;
+
+/// The most pairs that the bytes of these regions can hold.
+fn room_for(regions: &[RegionView<'_>]) -> usize {
+    let mut bytes = 0usize;
+    for region in regions {
+        bytes = bytes.saturating_add(region.bytes().len());
+    }
+    bytes / PAIR_BYTES
 }
 
-/// Counts all pairs. Refuses more than `MAX_PAIRS`, and bytes that don't begin as a region.
-fn count_all(regions: &[RegionView<'_>], partition: u32) -> Result<usize, TaskFault>
-    ensures count { IfOk result (λ n. (values : List (List Triple))
-        → AreSpelled partition regions.now values → n ≡ length (joined values)) }
-    ensures few { IfOk result (λ n. n ≤ 1073741824) }
-    ensures many { IfErr result (λ e. (e ≡ RegionDamaged)
-        × ((values : List (List Triple)) → AreSpelled partition regions.now values
-        → 1073741824 < length (joined values))) }
+/// Refuses more pairs than `MAX_PAIRS`. So a u32 counts those of each group, and the groups.
+fn limit(pairs: usize) -> Result<(), TaskFault>
+    ensures few { IfOk result (λ _. pairs ≤ 1073741824) }
+    ensures many { IfErr result (λ e. (e ≡ RegionDamaged) × (1073741824 < pairs)) }
 {
-    let mut total = 0;
-    for region in regions {
-        let Some(count) = count_in(region, partition) else {
-            return Err(TaskFault::RegionDamaged);
-        };
-        if MAX_PAIRS - total < count {
-            return Err(TaskFault::RegionDamaged);
-        }
-        total += count;
+    if pairs > MAX_PAIRS {
+        return Err(TaskFault::RegionDamaged);
     }
-    Ok(total)
+    Ok(())
 }
 
 /// What a job makes of a partition's pairs, however they are cut into regions: for each key, in
@@ -74,52 +59,26 @@ pub fn reduce_task(
     ensures reduced { IfOk result (IsReduced (text_of job.now) partition regions.now) }
     ensures damaged { IfErr result (λ e. e ≡ RegionDamaged → CanMerge partition regions.now → ⊥) }
 {
-    match reduce_task_while(alloc, job, partition, regions, &NeverCancelled)? {
-        Some(output) => Ok(output),
-        None => unreachable!(),
+    let mut all = Reduction::new(alloc, partition);
+    all.reserve(room_for(regions))?;
+    for region in regions {
+        if !all.take(region)? {
+            return Err(TaskFault::RegionDamaged);
+        }
     }
+    reduce_pairs(alloc, job, all)
 }
 
-/// What `reduce_task` returns, or `None` once it is no longer wanted: see `merge_regions_while`.
-pub fn reduce_task_while<D: Cancellation>(
-    alloc: Global,
-    job: &Job,
-    partition: u32,
-    regions: &[RegionView<'_>],
-    demand: &D,
-) -> Result<Option<ReduceOutput>, TaskFault>
-    ensures reduced { IfOk result
-        (λ o. MatchOption o (D.unending → ⊥) (IsReduced (text_of job.now) partition regions.now)) }
-    ensures damaged { IfErr result (λ e. e ≡ RegionDamaged → CanMerge partition regions.now → ⊥) }
+/// What `reduce_task` returns for the regions that were taken, and no others.
+pub fn reduce_pairs(alloc: Global, job: &Job, pairs: Reduction) -> Result<ReduceOutput, TaskFault>
+    ensures reduced { (regions : List RegionText) → IsOfRegions regions pairs
+        → IfOk result (IsReduced (text_of job.now) pairs.partition regions) }
+    ensures damaged { (regions : List RegionText) → IsOfRegions regions pairs
+        → IfErr result (λ e. e ≡ RegionDamaged → CanMerge pairs.partition regions → ⊥) }
 {
-    // So few pairs that a u32 counts those of each group, and the groups.
-    count_all(regions, partition)?;
-    let Some(groups) = merge_regions_while(alloc, regions, partition, demand)? else {
-        return Ok(None);
-    };
-    Ok(Some(ReduceOutput::of(alloc, job, groups)?))
-}
-
-/// What `reduce_task` returns for the regions that a `Follower` took. `None` where it didn't take
-/// each of them, or has too many pairs: `reduce_task` over all regions then finds the fault.
-pub fn reduce_followed(
-    alloc: Global,
-    job: &Job,
-    regions: Follower,
-) -> Result<Option<ReduceOutput>, AllocError>
-    ensures { (texts : List RegionText) → HasTaken texts regions
-        → IfOk result (λ o. IfSome o (IsReduced (text_of job.now) regions.partition texts)) }
-{
-    if !regions.is_whole() {
-        return Ok(None);
-    }
-    if regions.len() > MAX_PAIRS {
-        return Ok(None);
-    }
-    let Some(groups) = regions.groups(alloc)? else {
-        return Ok(None);
-    };
-    Ok(Some(ReduceOutput::of(alloc, job, groups)?))
+    limit(pairs.len())?;
+    let groups = pairs.groups(alloc)?;
+    Ok(ReduceOutput::of(alloc, job, groups)?)
 }
 
 /// Why there is no reduce output.

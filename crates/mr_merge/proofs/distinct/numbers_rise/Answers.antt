@@ -1,6 +1,7 @@
 use Rattle.std.proofs.Common.{◌-◌, get_or, arith}
 use Rattle.std.proofs.lemmas.Cmp.{nat_cmp_total}
-use Rattle.mr_merge.proofs.SoundLemmas.{number-less, rises-more}
+use Rattle.mr_spill.proofs.NameLemmas.{rises-more}
+use Rattle.mr_merge.proofs.SoundLemmas.{number-less}
 use Rattle.mr_merge.proofs.distinct.numbers_rise.Goals as goal
 
 pub loop-i-preserved : goal.loop-i-preserved

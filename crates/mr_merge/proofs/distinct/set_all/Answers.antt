@@ -1,6 +1,6 @@
-use Rattle.std.proofs.Common.{ℕ, get_or, arith, subst}
+use Rattle.std.proofs.Common.{ℕ, arith, subst}
 use Rattle.mr_merge.specs.Distinct.{IsSet}
-use Rattle.mr_merge.proofs.BitLemmas.{set-more, set-none}
+use Rattle.mr_merge.proofs.BitLemmas.{set-more}
 use Rattle.mr_merge.proofs.distinct.set_all.Goals as goal
 
 pub loop-i-preserved : goal.loop-i-preserved

@@ -1,4 +1,4 @@
-use Rattle.std.proofs.Common.{◌%◌, ◌<◌, arith}
+use Rattle.std.proofs.Common.{arith}
 use Rattle.mr_merge.proofs.BitLemmas.{set-fresh, set-it, set-keeps}
 use Rattle.mr_merge.proofs.distinct.set_bit.Goals as goal
 

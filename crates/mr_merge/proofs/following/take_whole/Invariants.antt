@@ -1,5 +1,0 @@
-use Rattle.mr_merge.proofs.TakingLemmas.{AreLeft, IsNamed}
-use Rattle.mr_merge.proofs.following.take_whole.Given as goal
-
-abbrev pub invariant-loop : goal.invariant-loop
-invariant-loop l = IsNamed l.partition l.region l.fn.all l.all l.cursor l.names.numbers.items × AreLeft l.partition l.region l.cursor l.counter l.count

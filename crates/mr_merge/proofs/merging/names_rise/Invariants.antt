@@ -1,7 +1,0 @@
-use Rattle.std.proofs.Common.{take}
-use Rattle.mr_bytes.specs.Lists.{Rises}
-use Rattle.mr_bytes.specs.Order.{name_order}
-use Rattle.mr_merge.proofs.merging.names_rise.Given as goal
-
-abbrev pub invariant-loop-i : goal.invariant-loop-i
-invariant-loop-i l = Rises name_order (take l.i l.names)
