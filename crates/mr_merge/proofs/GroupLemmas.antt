@@ -153,7 +153,7 @@ are-merged ts ks keyed rise =
 -- ---- groups, one by one
 
 abbrev pub no_key : KeyEntries
-no_key = record { key = []; entries = [] }
+no_key = record { part = 0; key = []; entries = [] }
 
 pub group-at : (ks : List KeyEntries) (g : ℕ) → g < length ks → get_or (map group_with ks) g no_group ≡ group_with (get_or ks g no_key)
 group-at ks g h = get_or-map group_with ks g no_key no_group h
