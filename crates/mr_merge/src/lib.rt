@@ -5,9 +5,9 @@
 //! it, and its name with the last one of the regions before. A row of pairs of one key takes one
 //! look-up. At the end it sorts the distinct keys and moves each name once. Where names of regions
 //! overlap or repeat, it first sorts all pairs by name, which takes a look-up more for each. Memory
-//! besides the regions: 28 bytes a pair, of which 12 stay; each distinct key; up to 264 for each
-//! name of the largest region, which is one run's (`distinct.rt`); where it sorts by name, 44 more a
-//! pair and the keys twice.
+//! besides the regions: 28 bytes a pair, of which 12 stay, or 48 and the keys twice where it sorts by
+//! name; each distinct key; up to 264 for each name of the largest region, which is one run's
+//! (`distinct.rt`).
 #![tactic(auto)]
 
 mod distinct;

@@ -220,8 +220,8 @@ impl<'s, L: Ledger, G: Gate, W: Progress, S: RegionStore, R: Wait> Worker<'s, L,
         Ok(true)
     }
 
-    /// Fetches each split's output, and takes its regions one at a time. If no region is damaged and
-    /// the task can't be done, it is split 0 that is done again.
+    /// Fetches each split's output, and takes its regions one at a time. If each is sound but not all
+    /// together, it reports split 0, the least that it fetched.
     fn fetch_and_reduce(
         &mut self,
         attempt: u32,
