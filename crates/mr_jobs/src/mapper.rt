@@ -83,7 +83,7 @@ impl<'j, 'i> Mapper<'j, 'i> {
     /// Lines may come in any order; all lines in order take time linear in the input's length.
     /// Fails only for want of memory, which only a job that reads words takes. Another try may then
     /// succeed.
-    #[inline]
+    #[inline(always)]
     pub fn emit<'l>(
         &'l mut self,
         file: u32,
