@@ -87,6 +87,9 @@ impl<'a> Emitter<'a> {
                 self.value,
             ));
         }
+        if !self.whole && self.from == self.text.len() {
+            return None;
+        }
         let key = next_of_text(self.text, self.from, self.whole)?;
         self.from = key.end as usize;
         self.whole = false;
@@ -110,9 +113,6 @@ fn next_of_text(text: &[u8], from: usize, whole: bool) -> Option<Span>
             start: 0,
             end: text.len() as u32,
         });
-    }
-    if from == text.len() {
-        return None;
     }
     next_word(text, from)
 }
