@@ -6,8 +6,8 @@ ghost use Rattle.std.specs.Prelude.{drop, slice_index_or};
 ghost use Rattle.mr_input.specs.Files.{split_total};
 ghost use Rattle.mr_splits.specs.Named.{is_left_out, of_split};
 ghost use Rattle.mr_splits.specs.Cut.{records_of, nth_named, has_record_name, left_out_flags};
-ghost use Rattle.mr_splits.specs.Kept.{first_fault, kept_between, kept_from, kept_numbers, kept_records};
-ghost use Rattle.mr_splits.specs.Kept.{list_fault, name_fault};
+ghost use Rattle.mr_splits.specs.Kept.{first_fault, kept_between, kept_from, kept_numbers};
+ghost use Rattle.mr_splits.specs.Kept.{kept_records, list_fault, name_fault};
 
 use crate::plan::{Plan, RecordAt};
 use mr_bytes::{RecordName, compare_records};
@@ -288,7 +288,8 @@ impl LeftOutSet {
     #[inline]
     pub fn first_kept(&self, from: usize) -> Option<usize>
         ensures first { MatchOption result (kept_numbers from (drop from self.now) ≡ [])
-            (λ n. kept_numbers from (drop from self.now) ≡ n ∷ kept_numbers (n + 1) (drop (n + 1) self.now)) }
+            (λ n. kept_numbers from (drop from self.now)
+            ≡ n ∷ kept_numbers (n + 1) (drop (n + 1) self.now)) }
         ensures few { IfSome result (λ n. n < 2 ^ 30) }
     {
         let mut number = from;
