@@ -87,9 +87,6 @@ impl<'a> Emitter<'a> {
                 self.value,
             ));
         }
-        if !self.whole && self.from == self.text.len() {
-            return None;
-        }
         let key = next_of_text(self.text, self.from, self.whole)?;
         self.from = key.end as usize;
         self.whole = false;
@@ -99,7 +96,7 @@ impl<'a> Emitter<'a> {
 
 /// Where the next key is once no word is left that was found before: the whole text, or its next
 /// word from a place on.
-#[inline(never)]
+#[inline(always)]
 fn next_of_text(text: &[u8], from: usize, whole: bool) -> Option<Span>
     requires within { from ≤ length text.now }
     requires small { length text.now ≤ 2 ^ 30 }
@@ -114,6 +111,22 @@ fn next_of_text(text: &[u8], from: usize, whole: bool) -> Option<Span>
             end: text.len() as u32,
         });
     }
+    if from == text.len() {
+        return None;
+    }
+    word_from(text, from)
+}
+
+/// What `next_word` finds. A call, so that the loop over words that were found before stays small.
+#[inline(never)]
+fn word_from(text: &[u8], from: usize) -> Option<Span>
+    requires within { from ≤ length text.now }
+    requires small { length text.now ≤ 2 ^ 30 }
+    ensures next { (value : Value) → MatchOption result (words_from value text.now from ≡ [])
+        (λ w. words_from value text.now from
+        ≡ (span_bytes text.now w, value) ∷ words_from value text.now w.end) }
+    ensures of { IfSome result (IsOf text.now) }
+{
     next_word(text, from)
 }
 
