@@ -13,9 +13,12 @@
 ghost use Rattle.std.specs.Prelude.{◌≡◌, ℕ, ◌≤◌, ◌<◌, ◌^◌, ◌⊎◌, [], ◌∷◌, false, if◌then◌else◌};
 ghost use Rattle.std.specs.Prelude.{IsTrue, OnOk, OnErr, MatchOption, IfSome, IfNone, length};
 ghost use Rattle.std.specs.Prelude.{vec_capacity, All};
-ghost use Rattle.mr_jobs.specs.Emissions.{emissions, IsReady};
+ghost use Rattle.mr_jobs.specs.Emissions.{emissions, IsReady, still_emitted};
 ghost use Rattle.mr_jobs.specs.Pairs.{pairs_of};
 ghost use Rattle.mr_jobs.specs.JobSpec.{folds_words};
+ghost use Rattle.mr_jobs.specs.Pieces.{IsOf};
+ghost use Rattle.mr_bytes.specs.Words.{span_bytes};
+ghost use Rattle.mr_bytes.specs.declared.Value.{Value};
 
 use crate::job::{Job, Kind};
 use crate::literal::holds;
@@ -55,7 +58,7 @@ impl<'a> Model for Emitter<'a> {
 
 impl<'a> LinePairs<'a> {
     /// These pairs, one after another.
-    #[inline]
+    #[inline(always)]
     pub fn emitter(self) -> Emitter<'a>
         ensures { result ≡ pairs_of self.entry }
     {
@@ -71,7 +74,7 @@ impl<'a> LinePairs<'a> {
 
 impl<'a> Emitter<'a> {
     /// The next key with its value, or `None` once nothing is left.
-    #[inline]
+    #[inline(always)]
     pub fn next(&mut self) -> Option<(&'a [u8], Value)>
         ensures next { MatchOption result (self.old ≡ []) (λ e. self.old ≡ (e.0.now, e.1) ∷ self.new) }
         ensures ended { IfNone result (self.new ≡ []) }
@@ -84,21 +87,47 @@ impl<'a> Emitter<'a> {
                 self.value,
             ));
         }
-        if self.whole {
-            self.whole = false;
-            self.from = self.text.len();
-            return Some((self.text, self.value));
-        }
-        if self.from == self.text.len() {
-            return None;
-        }
-        let word = next_word(self.text, self.from)?;
-        self.from = word.end as usize;
-        Some((
-            &self.text[word.start as usize..word.end as usize],
-            self.value,
-        ))
+        let key = next_of_text(self.text, self.from, self.whole)?;
+        self.from = key.end as usize;
+        self.whole = false;
+        Some((&self.text[key.start as usize..key.end as usize], self.value))
     }
+}
+
+/// Where the next key is once no word is left that was found before: the whole text, or its next
+/// word from a place on.
+#[inline(always)]
+fn next_of_text(text: &[u8], from: usize, whole: bool) -> Option<Span>
+    requires within { from ≤ length text.now }
+    requires small { length text.now ≤ 2 ^ 30 }
+    ensures next { (value : Value) → MatchOption result (still_emitted text.now from value whole ≡ [])
+        (λ w. still_emitted text.now from value whole
+        ≡ (span_bytes text.now w, value) ∷ still_emitted text.now w.end value false) }
+    ensures of { IfSome result (IsOf text.now) }
+{
+    if whole {
+        return Some(Span {
+            start: 0,
+            end: text.len() as u32,
+        });
+    }
+    if from == text.len() {
+        return None;
+    }
+    word_from(text, from)
+}
+
+/// What `next_word` finds. A call, so that the loop over words that were found before stays small.
+#[inline(never)]
+fn word_from(text: &[u8], from: usize) -> Option<Span>
+    requires within { from ≤ length text.now }
+    requires small { length text.now ≤ 2 ^ 30 }
+    ensures next { (value : Value) → MatchOption result (words_from value text.now from ≡ [])
+        (λ w. words_from value text.now from
+        ≡ (span_bytes text.now w, value) ∷ words_from value text.now w.end) }
+    ensures of { IfSome result (IsOf text.now) }
+{
+    next_word(text, from)
 }
 
 fn words_of<'a>(keep_case: bool, line: &'a [u8], buffer: &'a [u8], value: Value) -> LinePairs<'a>

@@ -163,6 +163,7 @@ impl<'t, 'l> LiteralSearch<'t, 'l> {
 
     /// Whether the line from `start` to before `end` contains the literal. Lines may come in any
     /// order; all lines of a text in order take time linear in its length.
+    #[inline(never)]
     pub(crate) fn hold(&mut self, start: usize, end: usize) -> bool
         requires order { start ≤ end }
         requires within { end ≤ length self.old.text }

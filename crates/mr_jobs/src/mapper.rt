@@ -8,9 +8,10 @@
 //! Invariant: the piece is a part of its file, and the search is about the text of file `file`,
 //! once there is such a file.
 //! Cost: linear for all lines in order; memory for a piece with its words, or the longest line.
-ghost use Rattle.std.specs.Prelude.{◌≡◌, ◌≤◌, ◌<◌, ◌+◌, ◌^◌, IfOk, length};
+ghost use Rattle.std.specs.Prelude.{◌≡◌, ◌≤◌, ◌<◌, ◌+◌, ◌^◌, IfOk, OnErr, length};
 ghost use Rattle.mr_jobs.specs.Emissions.{emissions};
 ghost use Rattle.mr_jobs.specs.Hits.{IsLine};
+ghost use Rattle.mr_jobs.specs.JobSpec.{ReadsWords};
 ghost use Rattle.mr_jobs.specs.Pairs.{pairs_of};
 
 use crate::job::{Job, Kind};
@@ -80,8 +81,9 @@ impl<'j, 'i> Mapper<'j, 'i> {
 
     /// The pairs that `Job::emit` tells of the line, of at most 1 GiB, at place `start` of file `file`.
     /// Lines may come in any order; all lines in order take time linear in the input's length.
-    /// Fails only for want of memory, and another try may then succeed.
-    #[inline]
+    /// Fails only for want of memory, which only a job that reads words takes. Another try may then
+    /// succeed.
+    #[inline(always)]
     pub fn emit<'l>(
         &'l mut self,
         file: u32,
@@ -92,6 +94,7 @@ impl<'j, 'i> Mapper<'j, 'i> {
         requires line { IsLine self.old.files file start line.now }
         ensures* same { sem 𝓛 (KeepsSource self.entry) }
         ensures emissions { IfOk result (λ e. pairs_of e ≡ emissions self.old.job file start line.entry.now) }
+        ensures only { OnErr result (ReadsWords self.old.job) }
     {
         let job = self.job;
         let from = start as usize;

@@ -40,7 +40,7 @@ impl<'a> LinePairs<'a> {
     }
 
     /// These words of the text, each with the value.
-    #[inline]
+    #[inline(always)]
     pub(crate) fn some_words(text: &'a [u8], words: &'a [Span], value: Value) -> LinePairs<'a>
         requires small { length text.now ≤ 2 ^ 30 }
         requires words { All (IsOf text.now) words.now }

@@ -70,15 +70,21 @@ impl Model for WordPiece {
     } };
 }
 
-/// Whether no word runs over the place.
-#[inline]
-pub(crate) fn is_seam(text: &[u8], at: usize) -> bool
+/// Whether no word runs over the place. Nearly all lines begin behind a line feed and end before one.
+#[inline(always)]
+fn is_seam(text: &[u8], at: usize) -> bool
     requires { at ≤ length text.now }
     ensures { IsTrue result → IsSeam text.now at }
 {
-    at == text.len() || !is_word_byte(text[at]) || at == 0 || !is_word_byte(text[at - 1])
+    at == 0
+        || at == text.len()
+        || text[at - 1] == b'\n'
+        || text[at] == b'\n'
+        || !is_word_byte(text[at])
+        || !is_word_byte(text[at - 1])
 }
 
+#[inline(always)]
 fn start_of(words: &[Span], i: usize) -> usize
     requires { i < length words.now }
     ensures { result ≡ start_at words.now i }
@@ -86,6 +92,7 @@ fn start_of(words: &[Span], i: usize) -> usize
     words[i].start as usize
 }
 
+#[inline(always)]
 fn is_cut(words: &[Span], at: usize, k: usize) -> bool
     requires { k ≤ length words.now }
     ensures { IsTrue result → IsCut words.now at k }
@@ -94,6 +101,7 @@ fn is_cut(words: &[Span], at: usize, k: usize) -> bool
 }
 
 /// The number of a word that begins at the place or later, while the one before begins before it.
+#[inline(never)]
 fn search(words: &[Span], at: usize) -> usize
     ensures { IsCut words.now at result }
 {
@@ -111,6 +119,7 @@ fn search(words: &[Span], at: usize) -> usize
 }
 
 /// The same, by a look at each word from number `from` on.
+#[inline(always)]
 fn go_on(words: &[Span], at: usize, from: usize) -> usize
     requires within { from ≤ length words.now }
     requires before { 0 < from → start_at words.now (from - 1) < at }
@@ -202,6 +211,7 @@ impl WordPiece {
     }
 
     /// Makes the line the one from `start` to before `end` in the piece.
+    #[inline(always)]
     fn find(&mut self, start: usize, end: usize)
         requires order { start ≤ end }
         requires within { end ≤ length self.old.text }
@@ -222,6 +232,7 @@ impl WordPiece {
     }
 
     /// Whether the piece has the line, and no word runs over an end of it.
+    #[inline(always)]
     fn has(&self, file: u32, start: usize, end: usize) -> bool
         requires { start ≤ end }
         ensures { IsTrue result → HasLine self.now file start end }
@@ -236,7 +247,7 @@ impl WordPiece {
 
     /// Makes the line the one from `start` to before `end` of the file, whose bytes are `text`.
     /// Fails only for want of memory.
-    #[inline]
+    #[inline(always)]
     pub(crate) fn ready(
         &mut self,
         file: u32,
@@ -260,6 +271,7 @@ impl WordPiece {
     }
 
     /// The same by a new piece that begins with the line.
+    #[inline(never)]
     fn refill(&mut self, file: u32, text: &[u8], start: usize, end: usize) -> Result<(), AllocError>
         requires order { start ≤ end }
         requires within { end ≤ length text.now }
@@ -279,7 +291,7 @@ impl WordPiece {
     }
 
     /// The words of the line, each with the value.
-    #[inline]
+    #[inline(always)]
     pub(crate) fn emit(&self, value: Value) -> LinePairs<'_>
         ensures { pairs_of result ≡ words_at value self.now.text self.now.line }
     {

@@ -12,7 +12,6 @@ pub mod NamedLaws
 pub mod OrderLemmas
 pub mod RankLemmas
 pub mod RankedGroups
-pub mod RunLemmas
 pub mod SkipLaws
 pub mod SourceLemmas
 pub mod TextLemmas

@@ -1,5 +1,5 @@
 -- Of no public promise: the names of pairs in their order, record by record, and what a name tells.
-use Rattle.std.specs.Prelude.{length, ℕ, zero, suc, ◌+◌, ◌-◌, ◌<◌, List, [], ◌∷◌, ◌++◌, map}
+use Rattle.std.specs.Prelude.{length, ℕ, zero, suc, ◌+◌, ◌<◌, List, [], ◌∷◌, map}
 use Rattle.std.specs.List.{flat_map, zip}
 use Rattle.mr_bytes.specs.declared.Name.{Name}
 use Rattle.mr_bytes.specs.declared.RecordName.{RecordName}
@@ -19,10 +19,6 @@ names_from name place (suc count) = record { split = name.split; rec = name.rec;
 -- the names of the pairs of records, each of which gave as many as is told beside it
 abbrev pub names_beside : List NamedRecord → List ℕ → List Name
 names_beside rs counts = flat_map (λ e. names_from e.0.name 0 e.1) (zip rs counts)
-
--- the same, behind the names of a record from a place on and before another
-abbrev pub names_left : RecordName → ℕ → ℕ → List NamedRecord → List ℕ → List Name
-names_left name place end rs counts = names_from name place (end - place) ++ names_beside rs counts
 
 -- how many pairs a record gives
 abbrev pub pair_count : JobSpec → NamedRecord → ℕ

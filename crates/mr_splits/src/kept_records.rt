@@ -2,12 +2,12 @@
 //! are a flag per record of the input, or nothing if all are kept.
 ghost use Rattle.std.specs.Prelude.{◌≡◌, ◌≢◌, ℕ, ◌+◌, ◌-◌, ◌≤◌, ◌<◌, ◌^◌, [], ◌∷◌, None, IfOk};
 ghost use Rattle.std.specs.Prelude.{IfNone, IfSome, IsOk, MatchOption, length, ◌||◌, Bool, false};
-ghost use Rattle.std.specs.Prelude.{slice_index_or};
+ghost use Rattle.std.specs.Prelude.{drop, slice_index_or};
 ghost use Rattle.mr_input.specs.Files.{split_total};
 ghost use Rattle.mr_splits.specs.Named.{is_left_out, of_split};
 ghost use Rattle.mr_splits.specs.Cut.{records_of, nth_named, has_record_name, left_out_flags};
-ghost use Rattle.mr_splits.specs.Kept.{first_fault, kept_between, kept_from, kept_records};
-ghost use Rattle.mr_splits.specs.Kept.{list_fault, name_fault};
+ghost use Rattle.mr_splits.specs.Kept.{first_fault, kept_between, kept_from, kept_numbers};
+ghost use Rattle.mr_splits.specs.Kept.{kept_records, list_fault, name_fault};
 
 use crate::plan::{Plan, RecordAt};
 use mr_bytes::{RecordName, compare_records};
@@ -138,6 +138,13 @@ impl<'a> KeptPlan<'a> {
         self.plan
     }
 
+    /// The records that are left out, by their numbers over all splits.
+    pub fn left_out(&self) -> &LeftOutSet
+        ensures { result.now ≡ left_out_flags self.now.skips (records_of self.now.cut) }
+    {
+        &self.left_out
+    }
+
     fn leaves_out(&self, name: RecordName) -> bool
         requires split { name.split < split_total self.now.cut.size self.now.cut.files }
         requires record { name.rec < length (of_split name.split (records_of self.now.cut)) }
@@ -256,14 +263,17 @@ pub struct LeftOutSet {
 }
 
 impl Model for LeftOutSet {
-    ghost use Rattle.std.specs.Prelude.{◌≡◌, Bool, List, length, [], ◌⊎◌};
+    ghost use Rattle.std.specs.Prelude.{◌≡◌, ◌≤◌, ◌^◌, Bool, List, length, [], ◌⊎◌};
     ghost use Rattle.mr_splits.specs.Cut.{flags_of};
 
     ghost Value = { List Bool };
 
     ghost view = { λ l. flags_of l.count l.flags.items };
 
-    ghost invariant = { λ l. (l.flags.items ≡ []) ⊎ (length l.flags.items ≡ l.count) };
+    ghost invariant = { λ l. record {
+      few : l.count ≤ 2 ^ 30;
+      all : (l.flags.items ≡ []) ⊎ (length l.flags.items ≡ l.count);
+    } };
 }
 
 impl LeftOutSet {
@@ -272,6 +282,24 @@ impl LeftOutSet {
         ensures { result ≡ slice_index_or self.now number false }
     {
         !self.flags.is_empty() && self.flags[number]
+    }
+
+    /// The first number from `from` on that is not left out, or `None` if there is none.
+    #[inline]
+    pub fn first_kept(&self, from: usize) -> Option<usize>
+        ensures first { MatchOption result (kept_numbers from (drop from self.now) ≡ [])
+            (λ n. kept_numbers from (drop from self.now)
+            ≡ n ∷ kept_numbers (n + 1) (drop (n + 1) self.now)) }
+        ensures few { IfSome result (λ n. n < 2 ^ 30) }
+    {
+        let mut number = from;
+        while number < self.count {
+            if !self.has(number) {
+                return Some(number);
+            }
+            number += 1;
+        }
+        None
     }
 }
 

@@ -30,6 +30,7 @@ returns-in-Words c =
       (refl, λ _. tt, c.self.view_is),
       record {
         same = tt;
+        only = tt;
         emissions = c.emit.ensures
             ∙ c.in_ok-ready-in-Words.ensures.line value
             ∙ ap₂ (λ v l. words_from v l 0) c.value_at.ensures (ap₂ read_as c.self.invariant.folds bytes)
