@@ -14,7 +14,7 @@ ghost use Rattle.mr_merge.specs.declared.merged.MergeFault.TheVariants.{RegionDa
 
 use crate::merging::{all_rise, put_all};
 use mr_bytes::{Name, Value};
-use mr_spill::{KeyedPairs, Numbered, PairColumns, keyed_pairs};
+use mr_spill::{KeyedPairs, PairColumns, keyed_pairs};
 use std::alloc::{AllocError, Global};
 use std::marker::Model;
 use thiserror::Error;
@@ -79,7 +79,7 @@ impl Groups {
 }
 
 /// Groups pairs whose names already rise under each key: sorts the keys, and moves each name once.
-pub(crate) fn grouped(alloc: Global, pairs: Numbered) -> Result<Groups, AllocError>
+pub(crate) fn grouped(alloc: Global, pairs: PairColumns) -> Result<Groups, AllocError>
     requires { RisesUnderKeys pairs }
     ensures { IfOk result (λ g. g ≡ merged (sorted pair_order pairs)) }
 {
@@ -88,7 +88,7 @@ pub(crate) fn grouped(alloc: Global, pairs: Numbered) -> Result<Groups, AllocErr
 }
 
 /// Groups pairs in any order: sorts them by name before. `RegionDamaged` if a name occurs twice.
-pub(crate) fn grouped_by_name(alloc: Global, pairs: &Numbered) -> Result<Groups, MergeFault>
+pub(crate) fn grouped_by_name(alloc: Global, pairs: &PairColumns) -> Result<Groups, MergeFault>
     ensures differ { IfOk result (λ g. NamesDiffer pairs.now) }
     ensures groups { IfOk result (λ g. g ≡ merged pairs.now) }
     ensures damaged { IfErr result (λ e. e ≡ RegionDamaged → NamesDiffer pairs.now → ⊥) }

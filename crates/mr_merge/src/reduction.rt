@@ -19,7 +19,7 @@ ghost use Rattle.mr_merge.specs.declared.merged.MergeFault.TheVariants.{RegionDa
 use crate::distinct::RegionNames;
 use crate::merged::{Groups, MergeFault, grouped, grouped_by_name};
 use mr_bytes::{Name, compare_names};
-use mr_spill::{Numbered, RegionPair, RegionView, open_region};
+use mr_spill::{PairColumns, RegionPair, RegionView, open_region};
 use std::alloc::{AllocError, Global};
 use std::cmp::Ordering;
 use std::marker::Model;
@@ -27,7 +27,7 @@ use std::marker::Model;
 /// The pairs of regions, and their last name.
 #[derive(Drop)]
 pub(crate) struct Gathering {
-    pub pairs: Numbered,
+    pub pairs: PairColumns,
     pub last: Option<Name>,
 }
 
@@ -128,7 +128,7 @@ impl Reduction {
             partition,
             in_turn: true,
             all: Gathering {
-                pairs: Numbered::new(alloc),
+                pairs: PairColumns::new(alloc),
                 last: None,
             },
             names: RegionNames::new(alloc),

@@ -1,4 +1,3 @@
-pub mod ColumnLemmas
 pub mod CursorLemmas
 pub mod CutLemmas
 pub mod EntryLemmas

@@ -8,6 +8,7 @@ use Rattle.std.specs.Str.{bytes_eq}
 use Rattle.mr_bytes.specs.Lists.{Has}
 use Rattle.mr_bytes.specs.Pairs.{Triple}
 use Rattle.mr_group.specs.Buckets.{bucket}
+use Rattle.mr_spill.specs.Column.{names_of}
 use Rattle.mr_spill.specs.Entries.{Entry, under_key}
 use Rattle.mr_group.specs.Column.{keyed}
 use Rattle.mr_spill.specs.Table.{IsTable, Knows, beside, under}
@@ -34,6 +35,20 @@ beside-at [] es n t h same = absurd (omega (arith, h))
 beside-at (k ∷ ks) [] n t h same = absurd (omega (arith, same))
 beside-at (k ∷ ks) (e ∷ es) zero t h same = refl
 beside-at (k ∷ ks) (e ∷ es) (suc n) t h same = beside-at ks es n t (omega (arith, h)) (omega (arith, same))
+
+pub beside-nth : (ks : List (List ℕ)) (es : List Entry) (i : ℕ) (e : Entry) (t : Triple) → i < length ks → length es ≡ length ks
+    → get_or (beside ks es) i t ≡ under_key (key_at ks i) (get_or es i e)
+beside-nth [] es i e t h same = absurd (omega (arith, h))
+beside-nth (k ∷ ks) [] i e t h same = absurd (omega (arith, same))
+beside-nth (k ∷ ks) (w ∷ es) zero e t h same = refl
+beside-nth (k ∷ ks) (w ∷ es) (suc i) e t h same = beside-nth ks es i e t (omega (arith, h)) (omega (arith, same))
+
+-- the names of pairs are those that stand beside their keys
+pub names-beside : (ks : List (List ℕ)) (es : List Entry) → length es ≡ length ks → names_of (beside ks es) ≡ map (λ (e : Entry). e.1) es
+names-beside [] [] same = refl
+names-beside [] (e ∷ es) same = absurd (omega (arith, same))
+names-beside (k ∷ ks) [] same = absurd (omega (arith, same))
+names-beside (k ∷ ks) (e ∷ es) same = ap (λ l. e.1 ∷ l) (names-beside ks es (omega (arith, same)))
 
 -- ---- the pairs of a key
 

@@ -8,7 +8,6 @@ ghost use Rattle.mr_spill.specs.Buffer.{Buffered};
 ghost use Rattle.mr_spill.specs.Column.{names_of};
 ghost use Rattle.mr_spill.specs.Regions.{regions};
 
-use crate::numbered::Numbered;
 use crate::pair_columns::PairColumns;
 use crate::regions::cut;
 use mr_bytes::{By, Name, Pair, Value};
@@ -19,7 +18,7 @@ use thiserror::Error;
 /// Pairs by rising name, up to a limit. Each distinct key is stored once, with a look-up per pair.
 #[derive(Drop)]
 pub struct Buffer {
-    pub(crate) pairs: Numbered,
+    pub(crate) pairs: PairColumns,
     pub(crate) limit: usize,
 }
 
@@ -70,7 +69,7 @@ impl Buffer {
         ensures { result ≡ record { limit = limit; pairs = [] } }
     {
         Buffer {
-            pairs: Numbered::new(alloc),
+            pairs: PairColumns::new(alloc),
             limit,
         }
     }

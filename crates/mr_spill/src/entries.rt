@@ -62,7 +62,7 @@ impl Entries {
         requires { i < length self.now }
         ensures { result ≡ nth_entry self.now i }
     {
-        (self.values.get(i), self.names[i])
+        (self.value(i), self.name(i))
     }
 
     pub fn value(&self, i: usize) -> Value
@@ -70,6 +70,21 @@ impl Entries {
         ensures { result ≡ (nth_entry self.now i).0 }
     {
         self.values.get(i)
+    }
+
+    /// The name of value `i`, from 0.
+    pub fn name(&self, i: usize) -> Name
+        requires { i < length self.now }
+        ensures { result ≡ (nth_entry self.now i).1 }
+    {
+        self.names[i]
+    }
+
+    /// The names of all values, in order.
+    pub fn names(&self) -> &[Name]
+        ensures { result.now ≡ map (λ e. e.1) self.now }
+    {
+        &self.names
     }
 
     /// Appends a value. Fails only for want of memory, and then nothing has changed.

@@ -1,56 +1,41 @@
-//! Pairs with their names, in flat columns.
+//! Pairs with their names, in columns.
 //!
-//!     keys    [ thecat ]                pairs pushed together under one key share its bytes
-//!     spans   [ 0-3 0-3 3-6 ]           the key of each pair
-//!     values  names                     one each per pair; the `One` in front are only counted
-ghost use Rattle.std.specs.Prelude.{◌≡◌, ◌↔◌, ◌+◌, ◌-◌, ◌++◌, ◌∷◌, [], ◌<◌, IfOk, IsTrue, OnOk};
+//!     keys     the cat the         each distinct key once, a few perhaps more often (`KeyColumn`)
+//!     values   names               one each per pair; the `One` in front are only counted
+ghost use Rattle.std.specs.Prelude.{◌≡◌, ◌-◌, ◌<◌, ◌++◌, ◌∷◌, [], IsTrue, OnOk};
 ghost use Rattle.std.specs.Prelude.{OnErr, length};
 ghost use Rattle.mr_spill.specs.Column.{names_of, nth_pair};
+ghost use Rattle.mr_spill.specs.Cursor.{EndsWithKey, lent_pair};
 
-use mr_bytes::{Name, Span, Value, ValueColumn};
+use crate::cursor::RegionPair;
+use crate::entries::Entries;
+use mr_bytes::{Name, Value};
+use mr_group::KeyColumn;
 use std::alloc::{AllocError, Global};
 use std::marker::Model;
 
-/// Pairs with their names, in order. Their keys have less than 4 GiB, shared bytes counted once.
+/// Pairs with their names, in order. More than 4 Gi pairs fail as want of memory, and so do 4 GiB of
+/// distinct keys.
 #[derive(Drop)]
 pub struct PairColumns {
-    keys: Vec<u8>,
-    spans: Vec<Span>,
-    values: ValueColumn,
-    names: Vec<Name>,
+    alloc: Global,
+    pub(crate) keys: KeyColumn,
+    pub(crate) entries: Entries,
 }
 
 impl Model for PairColumns {
-    ghost use Rattle.std.specs.Prelude.{◌≡◌, List, length};
-    ghost use Rattle.std.specs.List.{AllByRecursion};
+    ghost use Rattle.std.specs.Prelude.{◌≡◌, ◌<◌, ◌^◌, List, length};
     ghost use Rattle.mr_bytes.specs.Pairs.{Triple};
-    ghost use Rattle.mr_spill.specs.Column.{IsSpan, triples_of};
+    ghost use Rattle.mr_spill.specs.Table.{beside};
 
     ghost Value = { List Triple };
 
-    ghost view = { λ p. triples_of p.keys.items p.spans.items p.values p.names.items };
+    ghost view = { λ n. beside n.keys n.entries };
 
-    ghost invariant = { λ p. record {
-      spans : AllByRecursion (IsSpan (length p.keys.items)) p.spans.items;
-      values : length p.values ≡ length p.spans.items;
-      names : length p.names.items ≡ length p.spans.items;
+    ghost invariant = { λ n. record {
+      same : length n.entries ≡ length n.keys;
+      few : length n.keys < 2 ^ 32;
     } };
-}
-
-/// The span of a key appended to so many bytes. 4 GiB of keys fail as want of memory.
-fn span_behind(bytes: usize, key: &[u8]) -> Result<Span, AllocError>
-    ensures start { IfOk result (λ s. s.start ≡ bytes) }
-    ensures end { IfOk result (λ s. s.end ≡ bytes + length key.now) }
-{
-    let most = u32::MAX as usize;
-    let count = key.len();
-    if most < bytes || most - bytes < count {
-        return Err(AllocError);
-    }
-    Ok(Span {
-        start: bytes as u32,
-        end: (bytes + count) as u32,
-    })
 }
 
 impl PairColumns {
@@ -59,17 +44,24 @@ impl PairColumns {
         ensures { result ≡ [] }
     {
         PairColumns {
-            keys: Vec::new(alloc),
-            spans: Vec::new(alloc),
-            values: ValueColumn::new(alloc),
-            names: Vec::new(alloc),
+            alloc,
+            keys: KeyColumn::new(alloc),
+            entries: Entries::new(alloc),
         }
+    }
+
+    /// Makes room for `more` pairs. The pairs stay the same, even on failure.
+    pub fn reserve(&mut self, more: usize) -> Result<(), AllocError>
+        ensures { self.new ≡ self.old }
+    {
+        self.keys.reserve(more)?;
+        self.entries.reserve(more)
     }
 
     pub fn len(&self) -> usize
         ensures { result ≡ length self.now }
     {
-        self.spans.len()
+        self.keys.len()
     }
 
     /// The key of pair `i`, from 0.
@@ -77,8 +69,7 @@ impl PairColumns {
         requires { i < length self.now }
         ensures { result.now ≡ (nth_pair self.now i).key }
     {
-        let span = self.spans[i];
-        &self.keys[span.start as usize..span.end as usize]
+        self.keys.get(i)
     }
 
     /// The value of pair `i`, from 0.
@@ -86,7 +77,7 @@ impl PairColumns {
         requires { i < length self.now }
         ensures { result ≡ (nth_pair self.now i).value }
     {
-        self.values.get(i)
+        self.entries.value(i)
     }
 
     /// The name of pair `i`, from 0.
@@ -94,57 +85,78 @@ impl PairColumns {
         requires { i < length self.now }
         ensures { result ≡ (nth_pair self.now i).name }
     {
-        self.names[i]
+        self.entries.name(i)
     }
 
     /// The names of all pairs, in order.
     pub fn names(&self) -> &[Name]
         ensures { result.now ≡ names_of self.now }
     {
-        &self.names
+        self.entries.names()
     }
 
-    /// Appends a pair. Fails only for want of memory, and then nothing has changed.
+    /// Appends a pair. Fails only for want of memory, and then the pairs stay the same. Inlined:
+    /// callers have the name in registers, and a call would pass it over the stack in pieces.
+    #[inline(always)]
     pub fn push(&mut self, key: &[u8], value: Value, name: Name) -> Result<(), AllocError>
         ensures ok { OnOk result (self.new
             ≡ self.old ++ record { key = key.now; value = value; name = name } ∷ []) }
         ensures err { OnErr result (self.new ≡ self.old) }
     {
-        let span = span_behind(self.keys.len(), key)?;
-        self.keys.reserve(key.len())?;
-        self.spans.reserve(1)?;
-        self.names.reserve(1)?;
-        self.values.push(value)?;
-        // There is room for the rest, so nothing fails after a change.
-        self.keys.extend_from_slice(key)?;
-        self.spans.push_reserved(span);
-        self.names.push_reserved(name);
-        Ok(())
+        let count = self.keys.len();
+        if count + 1 > u32::MAX as usize {
+            return Err(AllocError);
+        }
+        self.entries.push(value, name)?;
+        match self.keys.push(self.alloc, key) {
+            Ok(()) => Ok(()),
+            Err(error) => {
+                self.entries.truncate(count);
+                Err(error)
+            }
+        }
     }
 
-    /// Appends a pair that shares the last pair's key. A failure changes nothing.
+    /// Appends a pair with the last pair's key, without a look-up. A failure changes nothing.
+    #[inline(always)]
     pub(crate) fn push_again(&mut self, value: Value, name: Name) -> Result<(), AllocError>
         requires { 0 < length self.old }
         ensures ok { OnOk result (self.new
             ≡ self.old ++ record { key = (nth_pair self.old (length self.old - 1)).key; value = value; name = name } ∷ []) }
         ensures err { OnErr result (self.new ≡ self.old) }
     {
-        let span = self.spans[self.spans.len() - 1];
-        self.spans.reserve(1)?;
-        self.names.reserve(1)?;
-        self.values.push(value)?;
-        self.spans.push_reserved(span);
-        self.names.push_reserved(name);
-        Ok(())
+        let count = self.keys.len();
+        if count + 1 > u32::MAX as usize {
+            return Err(AllocError);
+        }
+        self.entries.push(value, name)?;
+        match self.keys.push_again() {
+            Ok(()) => Ok(()),
+            Err(error) => {
+                self.entries.truncate(count);
+                Err(error)
+            }
+        }
     }
 
-    /// Removes all pairs, and keeps the memory.
+    /// Removes all pairs, and keeps their memory.
     pub fn clear(&mut self)
         ensures { self.new ≡ [] }
     {
         self.keys.clear();
-        self.spans.clear();
-        self.values.clear();
-        self.names.clear();
+        self.entries.clear();
+    }
+
+    /// Appends a pair of a region; a repeated key needs no look-up. Fails only for want of memory.
+    #[inline(always)]
+    pub fn take(&mut self, pair: RegionPair<'_>) -> Result<(), AllocError>
+        requires { IsTrue pair.again → EndsWithKey self.old pair.key.now }
+        ensures pair { OnOk result (self.new ≡ self.old ++ lent_pair pair.entry ∷ []) }
+        ensures last { OnOk result (EndsWithKey self.new pair.entry.key.now) }
+    {
+        if pair.again {
+            return self.push_again(pair.value, pair.name);
+        }
+        self.push(pair.key, pair.value, pair.name)
     }
 }

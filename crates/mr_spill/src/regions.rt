@@ -5,7 +5,6 @@ ghost use Rattle.mr_spill.specs.Keyed.{nth_key, pairs_in, pairs_with};
 ghost use Rattle.mr_spill.specs.Regions.{RegionsHave, RegionsRise, RisesUnderKeys, regions};
 
 use crate::keyed::{KeyedPairs, cut_pairs};
-use crate::numbered::Numbered;
 use crate::pair_columns::PairColumns;
 use mr_bytes::By;
 use std::alloc::{AllocError, Global};
@@ -53,7 +52,7 @@ fn empty_regions(alloc: Global, parts: u32) -> Result<Vec<PairColumns>, AllocErr
 /// A region per partition, in order, of pairs whose names rise under each key.
 pub(crate) fn cut(
     alloc: Global,
-    pairs: &Numbered,
+    pairs: &PairColumns,
     by: By,
     parts: u32,
 ) -> Result<Vec<PairColumns>, AllocError>

@@ -1,26 +1,22 @@
-use Rattle.std.proofs.Common.{arith, ap, sym, ◌∙◌, ◌≡◌, ◌<◌, List, length, get_or}
-use Rattle.mr_bytes.specs.declared.Value.{Value}
+use Rattle.std.proofs.Common.{◌≡◌, ◌<◌, List, length, arith, ap, sym, ◌∙◌}
 use Rattle.mr_bytes.specs.declared.Value.TheVariants.{One}
 use Rattle.mr_bytes.specs.Pairs.{Triple}
-use Rattle.mr_spill.specs.Column.{key_of, nth_pair}
-use Rattle.mr_spill.proofs.ColumnLemmas.{length-triples, no-span, triple-at}
+use Rattle.mr_group.specs.Interner.{key_at}
+use Rattle.mr_spill.specs.Column.{no_pair, nth_pair}
+use Rattle.mr_spill.specs.Entries.{nth_entry, under_key}
+use Rattle.mr_spill.proofs.TableLemmas.{beside-nth, length-beside}
 use Rattle.mr_spill.proofs.pair_columns.PairColumns.value.Goals as goal
 
-pub get-requires : goal.get-requires
-get-requires c =
-    let p = c.self.inside in
-    let values : List Value = p.values in
-    let few : c.args.i < length p.spans.items =
-    omega (arith, c.requires, ap length c.self.view_is, length-triples p.keys.items p.spans.items values p.names.items c.self.invariant.values c.self.invariant.names) in
-    omega (arith, few, c.self.invariant.values)
+pub value-requires : goal.value-requires
+value-requires c =
+    let n = c.self.inside in
+    omega (arith, c.requires, ap length c.self.view_is, length-beside n.keys n.entries c.self.invariant.same, c.self.invariant.same)
 
 pub returns : goal.returns
 returns c =
-    let p = c.self.inside in
-    let values : List Value = p.values in
-    let few : c.args.i < length p.spans.items =
-    omega (arith, c.requires, ap length c.self.view_is, length-triples p.keys.items p.spans.items values p.names.items c.self.invariant.values c.self.invariant.names) in
-    let pair : nth_pair c.args.self.now c.args.i ≡ record { key = key_of p.keys.items (get_or p.spans.items c.args.i no-span); value = get_or values c.args.i One; name = get_or p.names.items c.args.i (record { split = 0; rec = 0; place = 0 }) } =
+    let n = c.self.inside in
+    let few : c.args.i < length n.keys = omega (arith, c.requires, ap length c.self.view_is, length-beside n.keys n.entries c.self.invariant.same) in
+    let pair : nth_pair c.args.self.now c.args.i ≡ under_key (key_at n.keys c.args.i) (nth_entry n.entries c.args.i) =
     ap (λ (ts : List Triple). nth_pair ts c.args.i) (sym c.self.view_is)
-    ∙ triple-at c.args.i p.keys.items p.spans.items values p.names.items no-span c.self.invariant.values c.self.invariant.names few in
-    c.get.ensures ∙ sym (ap (λ (t : Triple). t.value) pair)
+    ∙ beside-nth n.keys n.entries c.args.i (One, record { split = 0; rec = 0; place = 0 }) no_pair few c.self.invariant.same in
+    c.value.ensures ∙ sym (ap (λ (t : Triple). t.value) pair)
