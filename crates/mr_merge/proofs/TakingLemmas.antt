@@ -1,5 +1,5 @@
 -- Regions taken pair by pair over their bytes.
-use Rattle.std.proofs.Common.{◌≡◌, ℕ, zero, suc, Bool, true, ◌+◌, ◌<◌, arith, get_or, Option, Some, None, List, [], ◌∷◌, ◌++◌, length, refl, sym, ◌∙◌, ap, subst, append_assoc, map}
+use Rattle.std.proofs.Common.{◌≡◌, ℕ, zero, suc, Bool, true, ◌<◌, arith, get_or, Option, Some, None, List, [], ◌∷◌, ◌++◌, length, refl, sym, ◌∙◌, ap, subst, append_assoc, map}
 use Rattle.std.proofs.lemmas.List.{append-nil, flat_map_more, map-append}
 use Rattle.std.specs.List.{AllByRecursion}
 use Rattle.std.specs.Prelude.{IsTrue, MatchOption, ◌&&◌}
@@ -14,6 +14,7 @@ use Rattle.mr_spill.specs.Cursor.{AreAhead, EndsWithKey, IsNextOf, IsOpened, len
 use Rattle.mr_spill.specs.Lent.{RegionText}
 use Rattle.mr_spill.specs.Regions.{RisesUnderKeys}
 use Rattle.mr_spill.specs.Spelling.{SpellsRegion}
+use Rattle.mr_spill.proofs.CursorLemmas.{IsWalk, some-is, walk-start}
 use Rattle.mr_spill.proofs.ReadingLemmas.{spells-one}
 use Rattle.mr_merge.specs.declared.reduction.Gathering.{Gathering}
 use Rattle.mr_merge.specs.Bytes.{AreSpelled}
@@ -32,9 +33,6 @@ All-names P ts t all p = subst (AllByRecursion P) (sym (map-append (λ (u : Trip
 
 none-some : (p : RegionPair) → ◌≡◌ {A = Option RegionPair} None (Some p) → ⊥
 none-some p e = cc e
-
-some-is : (p q : RegionPair) → Some p ≡ Some q → p ≡ q
-some-is p q e = cc e
 
 pub begun-more : (partition : ℕ) (region : RegionText) (was past : Bool) (old now new : Gathering) (cursor later : RegionCursor) (p : RegionPair)
     → IsBegun partition region was old now cursor → IsNextOf (lent_pair p) cursor later → later.last ≡ Some p
@@ -157,36 +155,9 @@ spelled-sound partition rs vs a d = record { in_order = spelled-rise partition r
 
 -- ---- what is still to come of a region
 
--- whatever pairs the region spells, with those still to come there are so many behind the others
-abbrev pub AreLeft : ℕ → RegionText → RegionCursor → ℕ → ℕ → Type 0
-AreLeft partition region cursor gone count = (ts : List Triple) → SpellsRegion region.bytes region.split partition ts → (us : List Triple) × AreAhead cursor us × (length us + gone ≡ count)
-
-pub left-start : (partition : ℕ) (region : RegionText) (cursor : RegionCursor) (bytes : List ℕ) (split count : ℕ)
-    → IsOpened bytes split partition cursor → bytes ≡ region.bytes → split ≡ region.split → ((ts : List Triple) → AreAhead cursor ts → count ≡ length ts) → AreLeft partition region cursor 0 count
-left-start partition region cursor bytes split count o b s l ts h =
-    let a : AreAhead cursor ts = o.only ts (subst (λ (w : List ℕ). SpellsRegion w split partition ts) (sym b) (subst (λ (w : ℕ). SpellsRegion region.bytes w partition ts) (sym s) h)) in
-    (ts, a, omega (arith, l ts a))
-
-pub left-more : (partition : ℕ) (region : RegionText) (cursor later : RegionCursor) (t : Triple) (gone count : ℕ) → IsNextOf t cursor later → AreLeft partition region cursor gone count → AreLeft partition region later (gone + 1) count
-left-more partition region cursor later t gone count n l ts h =
-    let was = l ts h in
-    let next = n.only was.0 was.1 in
-    let len : length was.0 ≡ suc (length next.0) = ap length next.1 in
-    (next.0, next.2, omega (arith, was.2, len))
-
-pub left-none : (partition : ℕ) (region : RegionText) (cursor : RegionCursor) (gone count : ℕ) → ((ts : List Triple) → AreAhead cursor ts → ts ≡ []) → gone < count
-    → AreLeft partition region cursor gone count → (ts : List Triple) → SpellsRegion region.bytes region.split partition ts → ⊥
-left-none partition region cursor gone count none less l ts h =
-    let was = l ts h in
-    let empty : ◌≡◌ {A = ℕ} (length was.0) 0 = ap length (none was.0 was.1) in
-    omega (arith, was.2, empty, less)
-
-pub left-end : (partition : ℕ) (region : RegionText) (cursor : RegionCursor) (count : ℕ) → (AreAhead cursor [] → ⊥)
-    → AreLeft partition region cursor count count → (ts : List Triple) → SpellsRegion region.bytes region.split partition ts → ⊥
-left-end partition region cursor count not l ts h =
-    let was = l ts h in
-    not (subst (AreAhead cursor) (none-of-length was.0 (omega (arith, was.2))) was.1)
-  where
-    none-of-length : (us : List Triple) → length us ≡ 0 → us ≡ []
-    none-of-length [] e = refl
-    none-of-length (u ∷ us) e = absurd (omega (arith, e))
+pub walk-of : (partition : ℕ) (region : RegionText) (cursor : RegionCursor) (bytes : List ℕ) (split count : ℕ)
+    → IsOpened bytes split partition cursor → bytes ≡ region.bytes → split ≡ region.split → ((ts : List Triple) → AreAhead cursor ts → count ≡ length ts)
+    → IsWalk region.bytes region.split partition cursor 0 count
+walk-of partition region cursor bytes split count o b s l =
+    subst (λ (w : ℕ). IsWalk region.bytes w partition cursor 0 count) s
+    (subst (λ (w : List ℕ). IsWalk w split partition cursor 0 count) b (walk-start bytes split partition cursor count o l))

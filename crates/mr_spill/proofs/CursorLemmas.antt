@@ -1,5 +1,5 @@
 -- A pair taken from the front of what is still to come.
-use Rattle.std.proofs.Common.{◌≡◌, ℕ, suc, ◌+◌, ◌<◌, ◌≤◌, length, List, [], ◌∷◌, ◌++◌, Option, Some, None, refl, sym, ◌∙◌, ap, subst, arith}
+use Rattle.std.proofs.Common.{◌≡◌, ℕ, suc, ◌+◌, ◌<◌, ◌≤◌, length, List, [], ◌∷◌, ◌++◌, Option, Some, None, refl, sym, ◌∙◌, ap, subst, arith, append_assoc}
 use Rattle.std.specs.List.{AllByRecursion, flat_map}
 use Rattle.std.specs.declared.cmp.Ordering.TheVariants.{Less}
 use Rattle.mr_bytes.specs.Lists.{Rises}
@@ -7,7 +7,7 @@ use Rattle.mr_bytes.specs.Pairs.{Triple, pair_order}
 use Rattle.mr_bytes.proofs.ListLaws.{Has-all, all_from_Has}
 use Rattle.mr_spill.specs.declared.cursor.RegionPair.{RegionPair}
 use Rattle.mr_spill.specs.declared.cursor.RegionCursor.{RegionCursor}
-use Rattle.mr_spill.specs.Cursor.{AreAhead, IsBehind, IsNextOf, IsOpened, RiseBehind, lent_pair}
+use Rattle.mr_spill.specs.Cursor.{AreAhead, EndsWithKey, IsBehind, IsKeyOf, IsNextOf, IsOpened, RiseBehind, lent_pair}
 use Rattle.mr_spill.specs.Spelling.{PairFits, SpellsRegion, pair_bytes}
 use Rattle.mr_spill.proofs.ReadingLemmas.{pair-front}
 use Rattle.mr_spill.proofs.RegionLaws.{pair_total}
@@ -111,3 +111,33 @@ walk-end bytes split partition cursor gone count not all w ts h =
     none-of-length : (us : List Triple) → length us ≡ 0 → us ≡ []
     none-of-length [] e = refl
     none-of-length (u ∷ us) e = absurd (omega (arith, e))
+
+-- ---- pairs that are kept
+
+none-some : (p : RegionPair) → ◌≡◌ {A = Option RegionPair} None (Some p) → ⊥
+none-some p e = cc e
+
+pub some-is : (p q : RegionPair) → Some p ≡ Some q → p ≡ q
+some-is p q e = cc e
+
+-- the pairs of the bytes are those that were kept and those that are still to come
+pub record AreKept (bytes : List ℕ) (split partition : ℕ) (pairs : List Triple) (cursor : RegionCursor) : Type 0 where
+  pub on : (us : List Triple) → AreAhead cursor us → SpellsRegion bytes split partition (pairs ++ us)
+  pub key : (p : RegionPair) → cursor.last ≡ Some p → EndsWithKey pairs p.key.now
+
+pub kept-start : (bytes : List ℕ) (split partition : ℕ) (cursor : RegionCursor) → IsOpened bytes split partition cursor → AreKept bytes split partition [] cursor
+kept-start bytes split partition cursor o = record { on = o.on; key = λ p e. absurd (none-some p (sym o.none ∙ e)) }
+
+pub kept-more : (bytes : List ℕ) (split partition : ℕ) (pairs more : List Triple) (cursor later : RegionCursor) (p : RegionPair)
+    → AreKept bytes split partition pairs cursor → IsNextOf (lent_pair p) cursor later → later.last ≡ Some p
+    → more ≡ pairs ++ lent_pair p ∷ [] → EndsWithKey more p.key.now → AreKept bytes split partition more later
+kept-more bytes split partition pairs more cursor later p kept next last is ends = record {
+  on = λ us a. subst (SpellsRegion bytes split partition) (sym (ap (λ (l : List Triple). l ++ us) is ∙ append_assoc pairs (lent_pair p ∷ []) us)) (kept.on (lent_pair p ∷ us) (next.on us a));
+  key = λ q e. subst (λ (r : RegionPair). EndsWithKey more r.key.now) (some-is p q (sym last ∙ e)) ends;
+}
+
+-- a pair that has the key of the one before it
+pub kept-again : (last : Option RegionPair) (key : List ℕ) (pairs : List Triple) → IsKeyOf last key → ((p : RegionPair) → last ≡ Some p → EndsWithKey pairs p.key.now)
+    → EndsWithKey pairs key
+kept-again None key pairs same ends = absurd same
+kept-again (Some l) key pairs same ends = let e = ends l refl in (e.0, e.1 ∙ same)

@@ -1,19 +1,13 @@
 -- Spelled pairs in front of bytes: no two spellings begin alike.
-use Rattle.std.proofs.Common.{◌≡◌, ℕ, zero, suc, ◌<◌, ◌≤◌, ◌^◌, List, [], ◌∷◌, ◌++◌, length, refl, sym, ◌∙◌, ap, subst, arith, append_assoc, length-append}
+use Rattle.std.proofs.Common.{◌≡◌, ℕ, ◌<◌, ◌^◌, List, [], ◌∷◌, ◌++◌, length, refl, sym, ◌∙◌, ap, arith, append_assoc}
 use Rattle.std.proofs.lemmas.Nat.{from_be_bytes-to_be_bytes_4, from_be_bytes-to_be_bytes_8}
 use Rattle.std.specs.Int.{w32, w64, from_be_bytes}
 use Rattle.std.specs.List.{AllByRecursion, flat_map}
-use Rattle.std.specs.declared.cmp.Ordering.TheVariants.{Less}
 use Rattle.mr_bytes.specs.declared.Name.{Name}
 use Rattle.mr_bytes.specs.declared.Value.{Value}
 use Rattle.mr_bytes.specs.declared.Value.TheVariants.{One, At}
-use Rattle.mr_bytes.specs.Lists.{Rises}
-use Rattle.mr_bytes.specs.Pairs.{Triple, pair_order}
-use Rattle.mr_spill.specs.Column.{nth_pair}
-use Rattle.mr_spill.specs.Reading.{AreRead, MayFollow}
+use Rattle.mr_bytes.specs.Pairs.{Triple}
 use Rattle.mr_spill.specs.Spelling.{PairFits, SpellsRegion, ValueFits, header, magic, name_bytes, pair_bytes, u32, u64, value_bytes}
-use Rattle.mr_spill.proofs.RegionLaws.{pair_total}
-use Rattle.mr_group.proofs.ListLemmas.{All-more}
 
 pub front-cut : (a b xs ys : List ℕ) → length a ≡ length b → a ++ xs ≡ b ++ ys → (a ≡ b) × (xs ≡ ys)
 front-cut [] [] xs ys l e = (refl, e)
@@ -95,91 +89,6 @@ pub no-value : (bytes xs ys zs : List ℕ) (m : ℕ) (k : List ℕ) (n : Name) (
 no-value bytes xs ys zs m k n t rest h l fit a b c e none =
     let p = pair-key m k ys t rest h l fit (sym (a ∙ ap (λ w. u32 m ++ w) b) ∙ e) in
     none t.value rest (front-cut (name_bytes n) (name_bytes t.name) zs (value_bytes t.value ++ rest) refl (sym c ∙ p.1)).1
-
--- ---- pairs that were read, and pairs that are spelled
-
--- what is left of spelled pairs when those in front were read
-pub record IsLeft (ps ts : List Triple) (rest : List ℕ) : Type 0 where
-  pub left : List Triple
-  pub all : ts ≡ ps ++ left
-  pub text : rest ≡ flat_map pair_bytes left
-
-pub read-front : (ps ts : List Triple) (rest : List ℕ) → AllByRecursion PairFits ps → AllByRecursion PairFits ts → length ps ≤ length ts
-    → flat_map pair_bytes ps ++ rest ≡ flat_map pair_bytes ts → IsLeft ps ts rest
-read-front [] ts rest f g h e = record { left = ts; all = refl; text = e }
-read-front (p ∷ ps) [] rest f g h e = absurd (omega (arith, h))
-read-front (p ∷ ps) (t ∷ ts) rest f g h e =
-    let c = pair-front p t (flat_map pair_bytes ps ++ rest) (flat_map pair_bytes ts) f.0 g.0 (sym (append_assoc (pair_bytes p) (flat_map pair_bytes ps) rest) ∙ e) in
-    let r = read-front ps ts rest f.1 g.1 (omega (arith, h)) c.1 in
-    record { left = r.left; all = (λ i. sym c.0 i ∷ r.all i); text = r.text }
-
-pub All-right : {X : Type 0} (P : X → Type 0) (xs ys : List X) → AllByRecursion P (xs ++ ys) → AllByRecursion P ys
-All-right P [] ys all = all
-All-right P (x ∷ xs) ys all = All-right P xs ys all.1
-
-before-next : (ps us : List Triple) (u : Triple) → Rises pair_order (ps ++ u ∷ us) → AllByRecursion (λ p. pair_order p u ≡ Less) ps
-before-next [] us u r = tt
-before-next (p ∷ ps) us u r = ((All-right (λ w. pair_order p w ≡ Less) ps (u ∷ us) r.0).0, before-next ps us u r.1)
-
--- the pairs that are spelled go on behind those that were read
-pub spelled-next : (bytes rest : List ℕ) (split count : ℕ) (ps ts : List Triple) → AreRead bytes split count ts → AllByRecursion PairFits ps → length ps < count
-    → bytes ≡ flat_map pair_bytes ps ++ rest
-    → ((t : Triple) (more : List ℕ) → MayFollow ps split t → PairFits t → rest ≡ pair_bytes t ++ more → ⊥) → ⊥
-spelled-next bytes rest split count ps ts read fit few text none = by l.left l.all l.text
-  where
-    l : IsLeft ps ts rest
-    l = read-front ps ts rest fit read.fit (omega (arith, few, read.all)) (sym text ∙ read.is)
-
-    by : (us : List Triple) → ts ≡ ps ++ us → rest ≡ flat_map pair_bytes us → ⊥
-    by [] all e = absurd (omega (arith, few, read.all, ap length all, length-append ps []))
-    by (u ∷ us) all e =
-        none u (flat_map pair_bytes us)
-        (record {
-          own = (All-right (λ t. t.name.split ≡ split) ps (u ∷ us) (subst (AllByRecursion (λ t. t.name.split ≡ split)) all read.own)).0;
-          past = before-next ps us u (subst (Rises pair_order) all read.rise);
-        })
-        (All-right PairFits ps (u ∷ us) (subst (AllByRecursion PairFits) all read.fit)).0
-        e
-
--- where all were read, nothing is left
-pub spelled-end : (bytes rest : List ℕ) (split count : ℕ) (ps ts : List Triple) → AreRead bytes split count ts → AllByRecursion PairFits ps → length ps ≡ count
-    → bytes ≡ flat_map pair_bytes ps ++ rest → rest ≡ []
-spelled-end bytes rest split count ps ts read fit full text = by l.left l.all l.text
-  where
-    l : IsLeft ps ts rest
-    l = read-front ps ts rest fit read.fit (omega (arith, full, read.all)) (sym text ∙ read.is)
-
-    by : (us : List Triple) → ts ≡ ps ++ us → rest ≡ flat_map pair_bytes us → rest ≡ []
-    by [] all e = e
-    by (u ∷ us) all e = absurd (omega (arith, full, read.all, ap length all, length-append ps (u ∷ us)))
-
-pub rises-next : (ps : List Triple) (t : Triple) → Rises pair_order ps → AllByRecursion (λ p. pair_order p t ≡ Less) ps → Rises pair_order (ps ++ t ∷ [])
-rises-next [] t r a = (tt, tt)
-rises-next (p ∷ ps) t r a = (All-more (λ w. pair_order p w ≡ Less) ps t r.0 a.0, rises-next ps t r.1 a.1)
-
-pub flat-next : (ps : List Triple) (t : Triple) (rest : List ℕ) → flat_map pair_bytes (ps ++ t ∷ []) ++ rest ≡ flat_map pair_bytes ps ++ (pair_bytes t ++ rest)
-flat-next [] t rest = append_assoc (pair_bytes t) [] rest
-flat-next (p ∷ ps) t rest =
-    append_assoc (pair_bytes p) (flat_map pair_bytes (ps ++ t ∷ [])) rest
-    ∙ ap (λ l. pair_bytes p ++ l) (flat-next ps t rest)
-    ∙ sym (append_assoc (pair_bytes p) (flat_map pair_bytes ps) (pair_bytes t ++ rest))
-
--- ---- the last of pairs that rise
-
-pub last-all : (ts : List Triple) (n : ℕ) (t : Triple) → length ts ≡ suc n → Rises pair_order ts → pair_order (nth_pair ts n) t ≡ Less
-    → AllByRecursion (λ u. pair_order u t ≡ Less) ts
-last-all [] n t e r l = absurd (omega (arith, e))
-last-all (u ∷ []) zero t e r l = (l, tt)
-last-all (u ∷ []) (suc n) t e r l = absurd (omega (arith, e))
-last-all (u ∷ w ∷ ts) zero t e r l = absurd (omega (arith, e))
-last-all (u ∷ w ∷ ts) (suc n) t e r l =
-    let rest = last-all (w ∷ ts) n t (omega (arith, e)) r.1 l in
-    (pair_total.trans u w t r.0.0 rest.0, rest)
-
-pub all-last : (ts : List Triple) (n : ℕ) (t : Triple) → n < length ts → AllByRecursion (λ u. pair_order u t ≡ Less) ts → pair_order (nth_pair ts n) t ≡ Less
-all-last [] n t h a = absurd (omega arith)
-all-last (u ∷ ts) zero t h a = a.0
-all-last (u ∷ ts) (suc n) t h a = all-last ts n t (omega (arith, h)) a.1
 
 -- ---- one spelling, one list of pairs
 

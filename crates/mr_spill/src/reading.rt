@@ -1,20 +1,16 @@
 //! Decodes a region. Each `take_` function returns what it decodes, and the bytes after it.
-ghost use Rattle.std.specs.Prelude.{◌≡◌, ◌↔◌, ℕ, ◌-◌, ◌<◌, ◌^◌, ◌++◌, List, IfErr, IfOk, IsTrue};
-ghost use Rattle.std.specs.Prelude.{MatchOption, length};
+ghost use Rattle.std.specs.Prelude.{◌≡◌, ℕ, ◌<◌, ◌^◌, ◌++◌, List, IfErr, IfOk, MatchOption, length};
 ghost use Rattle.mr_bytes.specs.declared.Value.{Value as Carried};
-ghost use Rattle.std.specs.declared.cmp.Ordering.TheVariants.{Less};
-ghost use Rattle.mr_bytes.specs.Lists.{Rises};
-ghost use Rattle.mr_bytes.specs.Pairs.{Triple, pair_order};
-ghost use Rattle.mr_spill.specs.Column.{nth_pair};
-ghost use Rattle.mr_spill.specs.Reading.{AreRead, IsNext, MayFollow, pair_of};
+ghost use Rattle.mr_bytes.specs.Pairs.{Triple};
+ghost use Rattle.mr_spill.specs.Reading.{pair_of};
 ghost use Rattle.mr_spill.specs.Spelling.{PairFits, SpellsRegion, header, magic, name_bytes};
 ghost use Rattle.mr_spill.specs.Spelling.{pair_bytes, u32 as four, u64 as eight, value_bytes};
 
+use crate::cursor::open_region;
 use crate::pair_columns::PairColumns;
 use byteorder::{BigEndian, ByteOrder};
-use mr_bytes::{Name, Value, compare_keys, compare_names};
+use mr_bytes::{Name, Value};
 use std::alloc::{AllocError, Global};
-use std::cmp::Ordering;
 use thiserror::Error;
 
 /// Why a region was not read.
@@ -167,77 +163,8 @@ pub(crate) fn take_header<'a>(
     Some((count, rest))
 }
 
-/// Whether pair `i` is before the one in front: by key, and then by name.
-fn stands_before(pairs: &PairColumns, i: usize, front: &Front<'_>) -> bool
-    requires { i < length pairs.now }
-    ensures { IsTrue result ↔ (pair_order (nth_pair pairs.now i) (pair_of front.now) ≡ Less) }
-{
-    match compare_keys(pairs.key(i), front.key) {
-        Ordering::Less => true,
-        Ordering::Equal => matches!(compare_names(pairs.name(i), front.name), Ordering::Less),
-        Ordering::Greater => false,
-    }
-}
-
-/// Whether the pair in front may follow these in a region of the split.
-fn may_follow(pairs: &PairColumns, split: u32, front: &Front<'_>) -> bool
-    requires { Rises pair_order pairs.now }
-    ensures { IsTrue result ↔ MayFollow pairs.now split (pair_of front.now) }
-{
-    if front.name.split != split {
-        return false;
-    }
-    let count = pairs.len();
-    count == 0 || stands_before(pairs, count - 1, front)
-}
-
-/// Appends the pair in front, and returns the bytes after it.
-fn read_next<'a>(
-    pairs: &mut PairColumns,
-    bytes: &'a [u8],
-    split: u32,
-) -> Result<&'a [u8], RegionFault>
-    requires { Rises pair_order pairs.old }
-    ensures ok { IfOk result (λ rest. IsNext pairs.old pairs.new split bytes.entry.now rest.now) }
-    ensures damaged { IfErr result (λ e. e ≡ RegionDamaged → (t : Triple) (rest : List ℕ)
-        → MayFollow pairs.old split t → PairFits t
-        → bytes.entry.now ≡ pair_bytes t ++ rest → ⊥) }
-{
-    let Some(front) = take_pair(bytes) else {
-        return Err(RegionFault::RegionDamaged);
-    };
-    if !may_follow(pairs, split, &front) {
-        return Err(RegionFault::RegionDamaged);
-    }
-    pairs.push(front.key, front.value, front.name)?;
-    Ok(front.rest)
-}
-
-/// Reads `count` rising pairs and the end. Makes no room for pairs before it has read their bytes.
-fn read_pairs(
-    alloc: Global,
-    bytes: &[u8],
-    split: u32,
-    count: u32,
-) -> Result<PairColumns, RegionFault>
-    ensures ok { IfOk result (AreRead bytes.now split count) }
-    ensures damaged { IfErr result
-        (λ e. e ≡ RegionDamaged → (ts : List Triple) → AreRead bytes.now split count ts → ⊥) }
-{
-    let mut pairs = PairColumns::new(alloc);
-    let mut rest = bytes;
-    for _ in 0..count {
-        rest = read_next(&mut pairs, rest, split)?;
-    }
-    let behind = rest.len();
-    if behind > 0 {
-        return Err(RegionFault::RegionDamaged);
-    }
-    Ok(pairs)
-}
-
 /// The pairs of a region of this split and partition. Any bytes but those that `write_region` gives
-/// for them are `RegionDamaged`.
+/// for them are `RegionDamaged`. It makes no room for pairs before it has read their bytes.
 pub fn read_region(
     alloc: Global,
     bytes: &[u8],
@@ -248,8 +175,19 @@ pub fn read_region(
     ensures damaged { IfErr result (λ e. e ≡ RegionDamaged → (ts : List Triple)
         → SpellsRegion bytes.now split partition ts → ⊥) }
 {
-    let Some((count, rest)) = take_header(bytes, split, partition) else {
+    let Some(mut cursor) = open_region(bytes, split, partition) else {
         return Err(RegionFault::RegionDamaged);
     };
-    read_pairs(alloc, rest, split, count)
+    let mut pairs = PairColumns::new(alloc);
+    let count = cursor.left();
+    for _ in 0..count {
+        let Some(pair) = cursor.next() else {
+            return Err(RegionFault::RegionDamaged);
+        };
+        pairs.take(pair)?;
+    }
+    if !cursor.is_at_end() {
+        return Err(RegionFault::RegionDamaged);
+    }
+    Ok(pairs)
 }

@@ -1,7 +1,8 @@
 use Rattle.std.proofs.Common.{◌≡◌, ◌&&◌, Bool, ap, sym, ◌∙◌, subst, true}
 use Rattle.mr_spill.specs.declared.cursor.RegionPair.{RegionPair}
 use Rattle.mr_spill.specs.Cursor.{lent_pair}
-use Rattle.mr_merge.proofs.TakingLemmas.{IsNamed, left-more, left-start, named-end, named-more, named-start}
+use Rattle.mr_spill.proofs.CursorLemmas.{walk-more}
+use Rattle.mr_merge.proofs.TakingLemmas.{IsNamed, named-end, named-more, named-start, walk-of}
 use Rattle.mr_merge.proofs.reduction.take_region.Goals as goal
 use Rattle.mr_merge.proofs.reduction.take_region.Goals.{then-in_turn, else-in_turn}
 
@@ -9,7 +10,7 @@ pub loop-init : goal.loop-init
 loop-init c = (
   subst (IsNamed c.args.partition c.args.region.now true c.args.all.now c.args.all.now c.in-Some.cursor) (sym c.clear.ensures)
       (named-start c.args.partition c.args.region.now c.args.all.now c.in-Some.cursor c.bytes.result.now c.split.result c.in-Some.ensures c.bytes.ensures c.split.ensures),
-  left-start c.args.partition c.args.region.now c.in-Some.cursor c.bytes.result.now c.split.result c.left-count.result c.in-Some.ensures c.bytes.ensures c.split.ensures c.left-count.ensures,
+  walk-of c.args.partition c.args.region.now c.in-Some.cursor c.bytes.result.now c.split.result c.left-count.result c.in-Some.ensures c.bytes.ensures c.split.ensures c.left-count.ensures,
 )
 
 pub loop-preserved : goal.loop-preserved
@@ -25,7 +26,7 @@ loop-preserved c =
           (subst (IsNamed c.args.partition c.args.region.now (c.loop.in_turn && past) c.args.all.now c.take_pair.new.all c.next.new.self) (sym c.in_ok-push.ensures)
           (named-more c.args.partition c.args.region.now c.loop.in_turn past c.args.all.now c.loop.all c.take_pair.new.all c.loop.cursor c.next.new.self p c.loop.names.numbers.items c.loop.invariant.0
           c.in-Some-next.ensures.none c.in-Some-next.ensures.last c.in_ok-past.ensures)),
-      left-more c.args.partition c.args.region.now c.loop.cursor c.next.new.self (lent_pair p) c.loop.counter c.left-count.result c.in-Some-next.ensures.none c.loop.invariant.1,
+      walk-more c.args.region.now.bytes c.args.region.now.split c.args.partition c.loop.cursor c.next.new.self (lent_pair p) c.loop.counter c.left-count.result c.in-Some-next.ensures.none c.loop.invariant.1,
     )
 
 pub returns-then-in_turn-2 : goal.returns-then-in_turn-2

@@ -29,11 +29,11 @@ of-requires-clause-count c =
 
 pub returns-clause-reduced : goal.returns-clause-reduced
 returns-clause-reduced c = λ regions h. record {
-    can = record {
-      values = h.values;
-      spelled = h.spelled;
-      sound = spelled-sound c.args.pairs.partition regions h.values h.spelled (subst NamesDiffer h.is c.in_ok-groups.ensures.differ);
-      few = omega (arith, c.in_ok-limit.ensures.few, c.len.ensures, ap length h.is);
-    };
-    is = c.in_ok-of.ensures ∙ ap (reduced (text_of c.args.job.now)) (c.in_ok-groups.ensures.groups ∙ ap merged h.is);
-  }
+  can = record {
+    values = h.values;
+    spelled = h.spelled;
+    sound = spelled-sound c.args.pairs.partition regions h.values h.spelled (subst NamesDiffer h.is c.in_ok-groups.ensures.differ);
+    few = omega (arith, c.in_ok-limit.ensures.few, c.len.ensures, ap length h.is);
+  };
+  is = c.in_ok-of.ensures ∙ ap (reduced (text_of c.args.job.now)) (c.in_ok-groups.ensures.groups ∙ ap merged h.is);
+}
