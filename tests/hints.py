@@ -242,7 +242,7 @@ def both_streams(harness):
 def memory(harness):
     """Want of memory, with what helps."""
     words = b" ".join(b"w%d" % (i * 7919 % 40000) for i in range(200_000)) + b"\n"
-    limit = lambda: resource.setrlimit(resource.RLIMIT_AS, (12_000 * 1024, 12_000 * 1024))
+    limit = lambda: resource.setrlimit(resource.RLIMIT_AS, (10_000 * 1024, 10_000 * 1024))
     got = on_terminal(harness, ["seq", *WORDS, "a"], harness.directory({"a": words}), preexec_fn=limit)
     harness.check("want of memory, on a terminal", got == (4, b"", b"mapred: out of memory\nhint: " + MEMORY + b"\n"), repr(got))
 
