@@ -73,10 +73,13 @@ def failing_calls(harness):
                     refused = got[:2] == (status, b"") and got[2].startswith(said) and got[2].count(b"\n") == 1 and is_beginning(got[3], whole[3], given)
                     unprinted = kind == "write" and got == (0, b"", b"", whole[3])
                     spared += kind == "malloc" and marked and got == whole
-                    harness.check(f"{words[0]} {name}, {kind} {number} fails", refused or unprinted or (got == whole and (kind == "malloc" or not marked)), repr(got))
+                    # the fast judge says nothing where a call of its own fails: then the plain one reads all again
+                    again = words[0] == "check" and got == whole
+                    harness.check(f"{words[0]} {name}, {kind} {number} fails", refused or unprinted or again or (got == whole and (kind == "malloc" or not marked)), repr(got))
                     if kind != "malloc" and marked and not unprinted:
                         got, _ = with_failing(harness, library, f"{kind} {number}", words, given, FAIL_MEMORY="1")
-                        harness.check(f"{words[0]} {name}, {kind} {number} wants memory", got[:3] == (4, b"", b"mapred: out of memory\n") and is_beginning(got[3], whole[3], given), repr(got))
+                        wants = got[:3] == (4, b"", b"mapred: out of memory\n") and is_beginning(got[3], whole[3], given)
+                        harness.check(f"{words[0]} {name}, {kind} {number} wants memory", wants or (again and got == whole), repr(got))
                     if kind != "malloc" and marked:
                         # an interrupted read or write of a file is a failed one; std opens again, and writes a line again
                         want = whole if kind == "open" or unprinted else failed
@@ -84,7 +87,8 @@ def failing_calls(harness):
                         harness.check(f"{words[0]} {name}, {kind} {number} is interrupted", got == want, repr(got))
                 harness.check(f"{words[0]} {name} comes to some {kind}", number > 1)
                 # asking for a word behind the last one needs no memory
-                harness.check(f"{words[0]} {name} needs all memory but once", spared <= 1, str(spared))
+                if words[0] == "seq":
+                    harness.check(f"{words[0]} {name} needs all memory but once", spared <= 1, str(spared))
     for words in (["--help"], ["seq", "--help"], ["check", "--help"], ["--version"], ["seq", "--job", "words", "--parts", "x", "--out", "."], []):
         whole, marked = with_failing(harness, library, "none", words, {})
         number, spared, marked = 0, 0, True

@@ -21,7 +21,7 @@ use crate::fronts::is_opening;
 use crate::sections::{Facts, Judged, Outcome};
 use mr_certform::{Item, Walker};
 use mr_index::Meter;
-use mr_judge::{Block, Border, FoundItem, JudgeState, MemoryOutputs, read_block};
+use mr_judge::{Block, Border, FoundItem, JudgeState, MemoryOutputs, read_block, test_named};
 use mr_verdict::{JudgeError, No, is_same_fault};
 use std::alloc::{AllocError, Global};
 
@@ -50,7 +50,10 @@ fn step_at_hand<'a>(
         (contents outputs.new.later.now)) }
     ensures place { OnOk result (outputs.new.passed ≡ judging.new.from) }
 {
-    match judging.step(&facts.basis(), outputs, row) {
+    if let Item::End = row.item {
+        return test_named(facts.emitted(), judging.named());
+    }
+    match judging.step(facts.case.request, outputs, row) {
         Ok(()) => Ok(()),
         Err(JudgeError::Fault(fault)) => Err(fault),
         Err(_) => unreachable!(),
@@ -167,7 +170,6 @@ fn judge_stretch<'a>(
     requires place { outputs.old.passed ≡ judging.old.from }
     ensures { StretchJudged (subject facts.now) judging.old judging.new (piece (items_left walker.old)) count result }
 {
-    let basis = facts.basis();
     let mut left = count;
     while 0 < left {
         if !read_more(walker, &mut block.items)? {
@@ -178,7 +180,7 @@ fn judge_stretch<'a>(
             lookups: 0,
             mapped: 0,
         };
-        block.look_up(&basis, &mut meter)?;
+        block.look_up(facts.index, &mut meter)?;
         let own = left.min(block.rows.len() as u64);
         if judge_own(judging, facts, outputs, &block.rows[..own as usize])? {
             return Ok(true);

@@ -1,17 +1,25 @@
 //! The judge of a result: by one thread (`mr_judge`) and by many, with the verdict of `mr_verdict`.
 #![tactic(auto)]
 
+mod accept;
 mod alone;
+mod checking;
+mod claims;
 mod front;
 mod front_bytes;
 mod fronts;
 mod guesses;
+mod joined;
+mod lines;
 mod mapping;
 mod options;
 mod sections;
 mod threads;
+mod walk;
+mod windows;
 
-pub use mr_judge::{check, check_from, check_metered, judge_on_one_thread, judge_readers};
+pub use checking::{accept_read, check, judge_on_one_thread};
+pub use mr_judge::{check_from, check_metered, judge_readers};
 pub use mr_verdict::{
     Case, Computation, No, Source, Yes, fault_law, is_same_fault, locality_law, partition_law,
     place_law, worked_places, worked_rows, yes_law,

@@ -20,7 +20,7 @@ use crate::options::{Crew, JudgeOptions};
 use mr_bytes::{Gate, Phase, Progress};
 use mr_index::EmissionIndex;
 use mr_jobs::Request;
-use mr_judge::{Basis, Border, MemoryOutputs};
+use mr_judge::{Border, MemoryOutputs};
 use mr_splits::Plan;
 use mr_tickets::{WorkPieces, draw_all};
 use mr_verdict::{Case, No};
@@ -238,15 +238,6 @@ impl<'a> Model for Facts<'a> {
 }
 
 impl<'a> Facts<'a> {
-    pub fn basis(&self) -> Basis<'a>
-        ensures { result ≡ record { request = self.now.request; triples = self.now.triples } }
-    {
-        Basis {
-            request: self.case.request,
-            index: self.index,
-        }
-    }
-
     /// The output before that of partition `next`, after `from` of its bytes, and those after it.
     pub fn outputs_at(&self, next: u64, from: u64) -> MemoryOutputs<'a>
         ensures rest { result.rest.now ≡ drop from (nth_file self.now.outputs (next - 1)) }

@@ -1,6 +1,6 @@
 -- Why `check` says nothing.
 use Rattle.std.proofs.Common.{◌≡◌, ◌↔◌, ℕ, List, Result, Ok, Err, inl, inr, ap, subst}
-use Rattle.mr_files.specs.Refusals.{IsOneUnread, IsWriteRefusal}
+use Rattle.mr_files.specs.Refusals.{IsWriteRefusal}
 use Rattle.mr_files.specs.declared.store.FileFault.{FileFault}
 use Rattle.mr_files.specs.declared.store.FileFault.TheVariants as file
 use Rattle.mr_args.specs.declared.fault.Fault.{Fault}

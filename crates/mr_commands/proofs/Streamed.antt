@@ -1,6 +1,6 @@
 -- From what the judge over readers answers to what is said of a result.
-use Rattle.std.proofs.Common.{◌≡◌, ◌⊎◌, ℕ, Option, Some, None, List, [], ◌∷◌, refl, sym, subst, inl, inr}
-use Rattle.std.specs.Prelude.{Result, Ok, Err}
+use Rattle.std.proofs.Common.{◌≡◌, ◌⊎◌, ℕ, Option, Some, None, List, [], ◌∷◌, refl, sym, subst}
+use Rattle.std.specs.Prelude.{IfSome, Result, Ok, Err}
 use Rattle.mr_jobs.specs.JobSpec.{RequestSpec}
 use Rattle.mr_certform.specs.Streaming.{Agrees as MayBe}
 use Rattle.mr_verdict.specs.declared.answers.No.{No}
@@ -9,6 +9,7 @@ use Rattle.mr_verdict.specs.declared.answers.Source.{Source}
 use Rattle.mr_verdict.specs.declared.answers.Yes.{Yes}
 use Rattle.mr_judge.specs.From.{AgreeAll, IsVerdictFrom, Judged}
 use Rattle.mr_verdict.specs.Verdict.{verdict_of}
+use Rattle.mr_check.specs.Accepted.{AcceptsRead}
 use Rattle.mr_files.specs.Holding.{Agrees, AllAgree, Holding, Stored}
 use Rattle.mr_files.specs.Names.{name_of_certificate, part_names}
 use Rattle.mr_files.specs.Refusals.{IsOneUnread, IsUnreadAmong, ReportsCause}
@@ -57,6 +58,15 @@ pub answered : (holds : Stored) (job : CheckJob) (readers parts : List (Option (
     → GivesAnswer job.request.now job.input.now parts certificate answer → AnswersResult holds job answer
 answered holds job readers parts certificate answer same held held_last (outs, bytes, agree, agrees, a) =
     (outs, bytes, (held outs (subst (λ (v : List (Option (List ℕ))). AllAgree v outs) same agree), held_last bytes agrees), a)
+
+-- a yes of the fast judge is an answer on what stands under the names
+pub accepted_answers : (holds : Stored) (job : CheckJob) (outs : List (List ℕ)) (certificate : Option (List ℕ)) (accepted : Option Yes)
+    → Holding holds (part_names job.asked.now.options.out.now job.asked.now.options.parts) outs
+    → ((bytes : List ℕ) → Agrees certificate bytes → holds (name_of_certificate job.asked.now.options.out.now) bytes)
+    → IfSome accepted (AcceptsRead job.request.now job.input.now outs certificate) → IfSome accepted (λ y. AnswersResult holds job (Ok y))
+accepted_answers holds job outs certificate None held held_last a = tt
+accepted_answers holds job outs certificate (Some y) held held_last a =
+    (outs, a.bytes, (held, held_last a.bytes (agree_one certificate a.bytes a.agrees)), record { verdict = a.verdict; certified = a.headline })
 
 -- a file that can't be read is one of which the cause is known
 pub unread_told : (unreadable : List ℕ → Type 0) (names : List (List ℕ)) (cause : List ℕ → Type 0) (e : FileFault) → ((n : List ℕ) → IsUnreadAmong unreadable names n → cause n) → IsOneUnread unreadable names e → ReportsCause cause e

@@ -19,7 +19,7 @@ use Rattle.mr_commands.specs.Named.{AreClear, input_names, named, read_by_check,
 use Rattle.mr_args.specs.Statuses.{ReportsFile}
 use Rattle.mr_commands.specs.Checks.{IsJudged}
 use Rattle.mr_commands.specs.YesLines.{yes_text}
-use Rattle.mr_commands.specs.Judgements.{IsAnswer, IsJudgement, IsResult, IsSaid, Judges, JudgesResult, text_kept}
+use Rattle.mr_commands.specs.Judgements.{IsAnswer, IsJudgement, IsResult, IsSaid, Judges, text_kept}
 use Rattle.mr_commands.specs.Verdicts.{IsCheckUnanswered, IsKeptUnder, IsTextRefused, IsVerdictOf, KeepsVerdict, names_kept, verdict_about}
 use Rattle.mr_commands.specs.declared.check_job.Judgement.{Judgement}
 use Rattle.mr_commands.proofs.JudgingInputs.{holding_lengths}

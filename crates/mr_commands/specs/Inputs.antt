@@ -1,5 +1,5 @@
 -- The input of a command, and what can't be written.
-use Rattle.std.specs.Prelude.{◌≡◌, ℕ, ◌<◌, ◌≤◌, ◌^◌, List, length, ⊤, string_bytes}
+use Rattle.std.specs.Prelude.{ℕ, ◌<◌, ◌≤◌, ◌^◌, List, length, ⊤, string_bytes}
 use Rattle.mr_input.specs.Files.{split_total, total_size}
 use Rattle.mr_input.specs.declared.InputFault.{InputFault}
 use Rattle.mr_input.specs.declared.InputFault.TheVariants.{TooManyFiles, TooLarge}

@@ -1,7 +1,13 @@
-//! Judges a result against an input. It reads the result whole, then one thread or several judge
-//! it. It judges two kinds of results while it reads them (`judging.rt`), so that none of their
-//! files is in memory: those that one thread judges with no verdict to write, and those with a file
-//! longer than a good result's.
+//! Judges a result against an input.
+//!
+//!     several threads, or a verdict to write    reads the result whole and judges what it read;
+//!                                               a file longer than a good result's: as below
+//!     one thread and no verdict                 asks the fast judge (`accepting.rt`)
+//!     if that says nothing                      judges while it reads (`judging.rt`)
+//!
+//! The fast judge says yes or nothing, and its yes is the answer. It holds the parts. The judge
+//! that reads opens all files again and holds none. It gives every other answer, and reports a file
+//! that can't be read.
 ghost use Rattle.std.specs.Prelude.{◌≤◌, ◌^◌};
 ghost use Rattle.std.specs.Prelude.{◌≡◌, ◌⊎◌, Err, IfErr, IfOk, Ok};
 ghost use Rattle.mr_input.specs.Files.{split_total};
@@ -9,6 +15,7 @@ ghost use Rattle.mr_verdict.specs.Cases.{IsWorth, verdict_on};
 ghost use Rattle.mr_verdict.specs.Headline.{accepted_of};
 ghost use Rattle.mr_verdict.specs.declared.answers.No.{No};
 
+use crate::accepting::accept_files;
 use crate::judging::{input_notes, judge_as_read};
 use crate::texts::{CommandOutput, say};
 use mr_args::{CheckOptions, Fault};
@@ -46,12 +53,12 @@ pub(crate) struct CheckJob<'a> {
     pub ghost few: { (1 ≤ asked.now.threads) × (asked.now.threads ≤ 64) },
 }
 
-/// The most bytes of a file of a good result over this input. A pair takes at least two bytes of
-/// input: one of its key, and the end of its word or line. It takes at most 16 bytes of a part
-/// besides its key, if its value is a line's place, and at most 17 of the certificate, as a group
-/// of its own: four for the count of entries, and three, five and five for its name in version 2,
-/// since an input has at most 2^20 splits. The rest is for what precedes the partitions. No clause
-/// states this bound: a longer result is judged all the same.
+/// The most bytes of all parts of a good result over this input, or of its certificate. A pair
+/// takes at least two bytes of input: one of its key, and the end of its word or line. It takes at
+/// most 16 bytes of a part besides its key, if its value is a line's place, and at most 17 of the
+/// certificate, as a group of its own: four for the count of entries, and three, five and five for
+/// its name in version 2, since an input has at most 2^20 splits. The rest is for what precedes the
+/// partitions. No clause states this bound: a longer result is judged all the same.
 fn most_bytes(input: &Input) -> u64 {
     let mut bytes = 0u64;
     for file in 0..input.files() {
@@ -196,9 +203,10 @@ impl<'a> CheckJob<'a> {
         }
     }
 
-    /// Judges the result. It reads the result whole first, unless one thread judges without a
-    /// verdict to keep, or a file is longer than a good result's; then it judges while it reads. If
-    /// that gives a yes whose verdict is kept, it reads the result whole after all.
+    /// Judges the result. If several threads judge or a verdict is kept, it reads the result whole
+    /// first. Otherwise it asks the fast judge for a yes. If that says nothing, or a file is longer
+    /// than a good result's, it judges while it reads. If that gives a yes whose verdict is kept,
+    /// it reads the result whole after all.
     pub(crate) fn judge_result<S: Store, R: Threads + Sync>(
         &self,
         rt: &R,
@@ -209,12 +217,18 @@ impl<'a> CheckJob<'a> {
         ensures judged { IfOk result (JudgesResult (S.holds store.now) self.now) }
         ensures refused { IfErr result (IsUnreadResult (S.unreadable store.now) self.now) }
     {
-        if self.asked.threads > 1 || self.asked.verdict.is_some() {
+        let accepted = if self.asked.threads > 1 || self.asked.verdict.is_some() {
             if let Some(held) = self.read(store, alloc, most_bytes(self.input))? {
                 return self.judge(rt, alloc, &held, watch);
             }
-        }
-        let answer = judge_as_read::<S, Brand>(self, store, alloc, watch)?;
+            None
+        } else {
+            accept_files(self, store, alloc, most_bytes(self.input), watch)
+        };
+        let answer = match accepted {
+            Some(yes) => Ok(yes),
+            None => judge_as_read::<S, Brand>(self, store, alloc, watch)?,
+        };
         if self.keeps_nothing(&answer) {
             let said = say(alloc, &answer)?;
             return Ok(Judgement {

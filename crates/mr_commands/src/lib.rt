@@ -1,6 +1,7 @@
 //! The program's commands over a store of files, and the lines that they print.
 #![tactic(auto)]
 
+mod accepting;
 mod check_job;
 mod commands;
 mod input;

@@ -4,4 +4,6 @@ pub mod WorkLemmas
 pub mod SizeLemmas
 pub mod JoinLemmas
 pub mod ShiftLemmas
+pub mod GrowLemmas
 pub mod PieceLemmas
+pub mod WindowLemmas

@@ -7,13 +7,14 @@ use Rattle.std.specs.Option.{option_map, option_or}
 use Rattle.std.specs.List.{find, slice_get}
 use Rattle.mr_bytes.specs.declared.Name.{Name}
 use Rattle.mr_bytes.specs.declared.RecordName.{RecordName}
+use Rattle.mr_bytes.specs.declared.Value.TheVariants.{One}
 use Rattle.mr_bytes.specs.Pairs.{Triple}
 use Rattle.mr_jobs.specs.Emissions.{Emission}
 use Rattle.mr_sequential.specs.Emitted.{placed_from}
 use Rattle.mr_sequential.specs.Good.{has_name, named}
 use Rattle.mr_index.specs.Pairs.{EndsRise}
-use Rattle.mr_index.specs.Building.{numbered}
-use Rattle.mr_index.proofs.PairLemmas.{range-more, range-end, range-size, rise-request}
+use Rattle.mr_index.specs.Building.{numbered, Tells}
+use Rattle.mr_index.proofs.PairLemmas.{range-more, range-end, range-size, rise-request, rise-at}
 
 -- ---- as they grow
 
@@ -122,7 +123,7 @@ test-false n t h =
 pub test-other : (n : Name) (t : Triple) → (t.name.split ≡ n.split → ⊥) → has_name n t ≡ false
 test-other n t h = test-false n t (λ e. h (ap (λ (x : Name). x.split) e))
 
-test-true : (n : Name) (t : Triple) → t.name ≡ n → has_name n t ≡ true
+pub test-true : (n : Name) (t : Triple) → t.name ≡ n → has_name n t ≡ true
 test-true n t e =
     ap (λ b. b && (eqb t.name.rec n.rec && eqb t.name.place n.place)) (eq-eqb t.name.split n.split (ap (λ (x : Name). x.split) e))
     ∙ ap (λ b. b && eqb t.name.place n.place) (eq-eqb t.name.rec n.rec (ap (λ (x : Name). x.rec) e))
@@ -217,3 +218,29 @@ part-in pairs a b i d request within h =
 
 pub part-past : (pairs : List Emission) (a b i : ℕ) → a ≤ b → b ≤ length pairs → b ≤ a + i → slice_get (slice_range pairs a b) i ≡ None
 part-past pairs a b i request within h = slice_get-past (slice_range pairs a b) i (omega (arith, range-size pairs a b request within, h))
+
+-- ---- by the number of a pair among all
+
+-- no record has ends there
+pub tells-none : (ends : List ℕ) (first number : ℕ) (n : Name) (pairs : List Emission) → length ends ≤ number → n.rec ≡ first + number → Tells ends first n pairs None
+tells-none ends first number n pairs past is =
+    find-none n.split first 0 ends pairs n (λ k h same. omega (arith, past, is, h, ap (λ (r : RecordName). r.rec) same))
+
+-- the record has no such place
+pub tells-past : (ends : List ℕ) (first number : ℕ) (n : Name) (pairs : List Emission) → EndsRise 0 (length pairs) ends → number < length ends → n.rec ≡ first + number
+    → get_or ends number 0 ≤ get_or (0 ∷ ends) number 0 + n.place → Tells ends first n pairs None
+tells-past ends first number n pairs rise within is past =
+    let order = rise-at 0 (length pairs) number ends rise within in
+    find-there n.split first 0 ends pairs n number within refl is
+    ∙ ap (option_map (triple_for n)) (part-past pairs (get_or (0 ∷ ends) number 0) (get_or ends number 0) n.place order.0 order.1 past)
+
+-- it has
+pub tells-there : (ends : List ℕ) (first number i : ℕ) (n : Name) (pairs : List Emission) → EndsRise 0 (length pairs) ends → number < length ends → n.rec ≡ first + number
+    → i ≡ get_or (0 ∷ ends) number 0 + n.place → i < get_or ends number 0 → Tells ends first n pairs (Some i)
+tells-there ends first number i n pairs rise within is at before =
+    let order = rise-at 0 (length pairs) number ends rise within in (
+      omega (arith, before, order.1),
+      find-there n.split first 0 ends pairs n number within refl is
+          ∙ ap (option_map (triple_for n)) (part-in pairs (get_or (0 ∷ ends) number 0) (get_or ends number 0) n.place ([], One) order.0 order.1 (omega (arith, at, before)))
+          ∙ ap (λ (k : ℕ). Some (triple_for n (get_or pairs k ([], One)))) (sym at),
+    )

@@ -4,8 +4,7 @@ use Rattle.std.proofs.lemmas.List.{drop-append-le, take-append-le, drop_at, take
 use Rattle.mr_bytes.specs.declared.Value.{Value}
 use Rattle.mr_bytes.specs.declared.Value.TheVariants.{One}
 use Rattle.mr_jobs.specs.Emissions.{Emission}
-use Rattle.mr_index.specs.Pairs.{pairs_from, EndsRise, pairs_seen, shifted, Sound}
-use Rattle.mr_index.specs.declared.pairs.Pairs.{Pairs}
+use Rattle.mr_index.specs.Pairs.{pairs_from, EndsRise, shifted}
 
 -- a part of a list that has grown behind it
 pub range-more : {X : Type 0} (xs ys : List X) (a b : ℕ) → a ≤ b → b ≤ length xs → slice_range (xs ++ ys) a b ≡ slice_range xs a b

@@ -1,99 +1,22 @@
 -- Pieces of a split as they grow, and put behind one another.
-use Rattle.std.proofs.Common.{◌≡◌, ℕ, suc, ◌+◌, ◌-◌, ◌<◌, ◌≤◌, ◌^◌, true, false, cond, eqb, List, [], ◌∷◌, ◌++◌, length, get_or, drop, take, replicate, slice_range, refl, sym, ◌∙◌, ap, subst, arith, length-append, length-drop}
-use Rattle.std.proofs.lemmas.List.{append-nil, drop-drop, get_or-drop, nil_from_length, take_more, take_all, take-append-drop, length-replicate}
-use Rattle.std.proofs.lemmas.List.Elements.{All-filter}
-use Rattle.std.proofs.lemmas.List.Sums.{sum_by-append}
-use Rattle.std.proofs.lemmas.Grind.{flat_map-append}
-use Rattle.std.proofs.Math.Seq.{take-add}
+use Rattle.std.proofs.Common.{◌≡◌, ℕ, suc, ◌+◌, ◌-◌, ◌<◌, ◌≤◌, ◌^◌, List, [], ◌∷◌, ◌++◌, length, get_or, drop, replicate, slice_range, refl, sym, ◌∙◌, ap, subst, arith, length-append}
+use Rattle.std.proofs.lemmas.List.{append-nil, nil_from_length, length-replicate}
 use Rattle.std.specs.List.{flat_map}
 use Rattle.mr_bytes.specs.Pairs.{Triple}
 use Rattle.mr_input.specs.Files.{total_size}
 use Rattle.mr_jobs.specs.Emissions.{Emission}
-use Rattle.mr_splits.specs.Named.{NamedRecord, is_left_out}
-use Rattle.mr_splits.specs.Cut.{nth_named, records_of}
-use Rattle.mr_sequential.specs.Emitted.{placed_from, record_triples}
-use Rattle.mr_sequential.proofs.LineLemmas.{Stands, records-stand}
-use Rattle.mr_sequential.specs.Pairs.{kept_pairs, record_pairs}
-use Rattle.mr_index.specs.Pairs.{EndsRise, filled, shifted, keys_size, Fits}
-use Rattle.mr_index.specs.Building.{numbered, ended, appended, Shows}
-use Rattle.mr_index.specs.Pieces.{Division, PieceView, ArePieces, records_divided, piece_between}
+use Rattle.mr_splits.specs.Named.{NamedRecord}
+use Rattle.mr_sequential.specs.Emitted.{record_triples}
+use Rattle.mr_sequential.specs.Pairs.{kept_pairs}
+use Rattle.mr_index.specs.Pairs.{EndsRise, filled, shifted, Fits}
+use Rattle.mr_index.specs.Building.{numbered, appended, Shows}
+use Rattle.mr_index.specs.Windows.{PieceView}
+use Rattle.mr_index.specs.Pieces.{Division, ArePieces, records_divided, piece_between}
+use Rattle.mr_index.proofs.GrowLemmas.{slice-all, gives-join, fits-slice}
 use Rattle.mr_index.proofs.NumberedLemmas.{numbered-pad, rise-pad}
 use Rattle.mr_index.proofs.PairLemmas.{length-shifted}
 use Rattle.mr_index.proofs.ShiftLemmas.{rise-append, numbered-append}
 use Rattle.mr_index.proofs.SizeLemmas.{split-fits}
-use Rattle.mr_index.proofs.WorkLemmas.{left-pairs, left-triples, end-next}
-
--- ---- the records from one number and before another
-
-none : NamedRecord
-none = record { name = record { split = 0; rec = 0 }; file = 0; start = 0; bytes = [] }
-
-slice-more : (rs : List NamedRecord) (from number : ℕ) → from ≤ number → number < length rs
-    → slice_range rs from (number + 1) ≡ slice_range rs from number ++ nth_named rs number ∷ []
-unfolding none
-slice-more rs from number order h =
-    let more : number + 1 - from ≡ number - from + 1 = omega arith in
-    let at : from + (number - from) ≡ number = omega arith in
-    ap (λ (k : ℕ). take k (drop from rs)) more
-    ∙ take_more (drop from rs) (number - from) none (omega (arith, length-drop from rs))
-    ∙ ap (λ (r : NamedRecord). take (number - from) (drop from rs) ++ r ∷ [])
-    (get_or-drop from rs (number - from) none ∙ ap (λ (k : ℕ). get_or rs k none) at)
-
-slice-none : (rs : List NamedRecord) (from : ℕ) → slice_range rs from from ≡ []
-slice-none rs from =
-    let no-more : from - from ≡ 0 = omega arith in
-    ap (λ (k : ℕ). take k (drop from rs)) no-more
-
-slice-join : (rs : List NamedRecord) (from at end : ℕ) → from ≤ at → at ≤ end → slice_range rs from end ≡ slice_range rs from at ++ slice_range rs at end
-slice-join rs from at end before behind =
-    let sum : end - from ≡ at - from + (end - at) = omega arith in
-    let here : from + (at - from) ≡ at = omega arith in
-    ap (λ (k : ℕ). take k (drop from rs)) sum
-    ∙ take-add (at - from) (end - at) (drop from rs)
-    ∙ ap (λ (l : List NamedRecord). slice_range rs from at ++ take (end - at) l)
-    (drop-drop (at - from) from rs ∙ ap (λ (k : ℕ). drop k rs) here)
-
-slice-all : (rs : List NamedRecord) (n : ℕ) → n ≡ length rs → slice_range rs 0 n ≡ rs
-slice-all rs n h = take_all (n - 0) rs (omega (arith, h))
-
-module _ {Y : Type 0} (gives : NamedRecord → List Y) (rs : List NamedRecord) where
-  gives-more : (from number : ℕ) → from ≤ number → number < length rs
-      → flat_map gives (slice_range rs from (number + 1)) ≡ flat_map gives (slice_range rs from number) ++ gives (nth_named rs number)
-  gives-more from number order h =
-      ap (flat_map gives) (slice-more rs from number order h)
-      ∙ flat_map-append gives (slice_range rs from number) (nth_named rs number ∷ [])
-      ∙ ap (λ (l : List Y). flat_map gives (slice_range rs from number) ++ l) (append-nil (gives (nth_named rs number)))
-
-  gives-join : (from at end : ℕ) → from ≤ at → at ≤ end
-      → flat_map gives (slice_range rs from end) ≡ flat_map gives (slice_range rs from at) ++ flat_map gives (slice_range rs at end)
-  gives-join from at end before behind =
-      ap (flat_map gives) (slice-join rs from at end before behind) ∙ flat_map-append gives (slice_range rs from at) (slice_range rs at end)
-
--- what a part of the records gives fits, where all does
-fits-slice : (gives : NamedRecord → List Emission) (rs : List NamedRecord) (from end : ℕ) → Fits (flat_map gives rs) → Fits (flat_map gives (slice_range rs from end))
-fits-slice gives rs from end h =
-    let g : List NamedRecord → List Emission = flat_map gives in
-    let inner : List NamedRecord = slice_range rs from end in
-    let after : List NamedRecord = drop (end - from) (drop from rs) in
-    let all : g rs ≡ g (take from rs) ++ g (drop from rs) = ap g (sym (take-append-drop from rs)) ∙ flat_map-append gives (take from rs) (drop from rs) in
-    let behind : g (drop from rs) ≡ g inner ++ g after = ap g (sym (take-append-drop (end - from) (drop from rs))) ∙ flat_map-append gives inner after in
-    let size : Emission → ℕ = λ (e : Emission). length e.0 in (
-      omega (arith, h.0, ap length all, length-append (g (take from rs)) (g (drop from rs)), ap length behind, length-append (g inner) (g after)),
-      omega (
-        arith,
-        h.1,
-        ap keys_size all,
-        sum_by-append size (g (take from rs)) (g (drop from rs)),
-        ap keys_size behind,
-        sum_by-append size (g inner) (g after),
-      ),
-    )
-
--- each record of the split is a line of its file
-pub divided-stands : (d : Division) (number : ℕ) → number < length (records_divided d) → Stands d.cut.files (nth_named (records_divided d) number)
-unfolding none
-divided-stands d number h =
-    All-filter (λ (r : NamedRecord). eqb r.name.split d.split) (Stands d.cut.files) (records_of d.cut) (records-stand d.cut.size d.cut.files) number none h
 
 -- what they give fits
 pub divided-fits : (d : Division) (files : List (List ℕ)) → files ≡ d.cut.files → length files ≤ 1024 → total_size files ≤ 2 ^ 30
@@ -101,84 +24,6 @@ pub divided-fits : (d : Division) (files : List (List ℕ)) → files ≡ d.cut.
 divided-fits d files same few small =
     split-fits d.job d.skips d.split d.cut.size d.cut.files (omega (arith, few, ap length same))
     (subst (λ (fs : List (List ℕ)). total_size fs ≤ 1073741824) same small)
-
--- ---- a piece as it grows
-
-pub shows-none : (d : Division) (from : ℕ) (ends : List ℕ) (pairs : List Emission) → ends ≡ [] → pairs ≡ [] → Shows (piece_between d from from) ends pairs
-unfolding numbered
-shows-none d from ends pairs a b =
-    let rs : List NamedRecord = records_divided d in
-    subst (λ (l : List ℕ). Shows (piece_between d from from) l pairs) (sym a)
-    (subst (λ (es : List Emission). Shows (piece_between d from from) [] es) (sym b)
-    (record {
-      rise = refl;
-      few = omega arith;
-      pairs = sym (ap (flat_map (kept_pairs d.job d.skips)) (slice-none rs from));
-      triples = sym (ap (flat_map (record_triples d.job d.skips)) (slice-none rs from));
-    }))
-
--- a record that is left out
-pub shows-left : (d : Division) (from number : ℕ) (ends : List ℕ) (pairs : List Emission) → from ≤ number → number < length (records_divided d)
-    → is_left_out d.skips (nth_named (records_divided d) number).name ≡ true → Shows (piece_between d from number) ends pairs
-    → Shows (piece_between d from (number + 1)) ends pairs
-shows-left d from number ends pairs order within left s =
-    let rs : List NamedRecord = records_divided d in
-    let r : NamedRecord = nth_named rs number in
-    let k : NamedRecord → List Emission = kept_pairs d.job d.skips in
-    let t : NamedRecord → List Triple = record_triples d.job d.skips in
-    record {
-      rise = s.rise;
-      few = omega (arith, s.few);
-      pairs = s.pairs ∙ sym (append-nil (flat_map k (slice_range rs from number)))
-          ∙ ap (λ (l : List Emission). flat_map k (slice_range rs from number) ++ l) (sym (left-pairs d.job d.skips r left))
-          ∙ sym (gives-more k rs from number order within);
-      triples = s.triples ∙ sym (append-nil (flat_map t (slice_range rs from number)))
-          ∙ ap (λ (l : List Triple). flat_map t (slice_range rs from number) ++ l) (sym (left-triples d.job d.skips r left))
-          ∙ sym (gives-more t rs from number order within);
-    }
-
--- the pairs with those of a kept record
-next-pairs : (d : Division) (from number : ℕ) (ends : List ℕ) (pairs : List Emission) → from ≤ number → number < length (records_divided d)
-    → is_left_out d.skips (nth_named (records_divided d) number).name ≡ false → Shows (piece_between d from number) ends pairs
-    → pairs ++ record_pairs d.job (nth_named (records_divided d) number) ≡ flat_map (kept_pairs d.job d.skips) (slice_range (records_divided d) from (number + 1))
-next-pairs d from number ends pairs order within kept s =
-    let rs : List NamedRecord = records_divided d in
-    let r : NamedRecord = nth_named rs number in
-    let k : NamedRecord → List Emission = kept_pairs d.job d.skips in
-    let gave : k r ≡ record_pairs d.job r = ap (λ b. cond b [] (record_pairs d.job r)) kept in
-    ap (λ (l : List Emission). l ++ record_pairs d.job r) s.pairs
-    ∙ ap (λ (l : List Emission). flat_map k (slice_range rs from number) ++ l) (sym gave)
-    ∙ sym (gives-more k rs from number order within)
-
--- they fit
-pub next-fits : (d : Division) (from number : ℕ) (ends : List ℕ) (pairs : List Emission) → from ≤ number → number < length (records_divided d)
-    → is_left_out d.skips (nth_named (records_divided d) number).name ≡ false → Shows (piece_between d from number) ends pairs
-    → Fits (flat_map (kept_pairs d.job d.skips) (records_divided d)) → Fits (pairs ++ record_pairs d.job (nth_named (records_divided d) number))
-next-fits d from number ends pairs order within kept s fits =
-    subst Fits (sym (next-pairs d from number ends pairs order within kept s)) (fits-slice (kept_pairs d.job d.skips) (records_divided d) from (number + 1) fits)
-
--- a record that is kept
-pub shows-next : (d : Division) (from number : ℕ) (ends ends' : List ℕ) (pairs pairs' : List Emission) → from ≤ number → number < length (records_divided d)
-    → is_left_out d.skips (nth_named (records_divided d) number).name ≡ false
-    → (nth_named (records_divided d) number).name ≡ record { split = d.split; rec = number } → Shows (piece_between d from number) ends pairs
-    → pairs' ≡ pairs ++ record_pairs d.job (nth_named (records_divided d) number) → ends' ≡ ended (number - from) (length pairs) (length pairs') ends
-    → Shows (piece_between d from (number + 1)) ends' pairs'
-shows-next d from number ends ends' pairs pairs' order within kept named s grown ends-are =
-    let rs : List NamedRecord = records_divided d in
-    let r : NamedRecord = nth_named rs number in
-    let t : NamedRecord → List Triple = record_triples d.job d.skips in
-    let place : number ≡ from + (number - from) = omega arith in
-    let name : r.name ≡ record { split = d.split; rec = from + (number - from) } = named ∙ ap (λ (i : ℕ). record { split = d.split; rec = i }) place in
-    let after = end-next d.split from (number - from) r.name ends ends' pairs (record_pairs d.job r) pairs' (omega (arith, s.few)) s.rise name grown ends-are in
-    let gave : t r ≡ placed_from r.name 0 (record_pairs d.job r) = ap (λ b. cond b [] (placed_from r.name 0 (record_pairs d.job r))) kept in
-    record {
-      rise = after.rise;
-      few = omega (arith, after.few);
-      pairs = grown ∙ next-pairs d from number ends pairs order within kept s;
-      triples = after.shows ∙ ap (λ (ts : List Triple). ts ++ placed_from r.name 0 (record_pairs d.job r)) s.triples
-          ∙ ap (λ (ts : List Triple). flat_map t (slice_range rs from number) ++ ts) (sym gave)
-          ∙ sym (gives-more t rs from number order within);
-    }
 
 -- ---- pieces one behind another
 

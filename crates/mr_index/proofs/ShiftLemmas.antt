@@ -12,7 +12,7 @@ use Rattle.mr_index.specs.Building.{numbered}
 use Rattle.mr_index.proofs.PairLemmas.{range-more, rise-request}
 
 -- a part of what stands behind
-range-behind : {X : Type 0} (xs ys : List X) (a b : ℕ) → slice_range (xs ++ ys) (length xs + a) (length xs + b) ≡ slice_range ys a b
+pub range-behind : {X : Type 0} (xs ys : List X) (a b : ℕ) → slice_range (xs ++ ys) (length xs + a) (length xs + b) ≡ slice_range ys a b
 range-behind xs ys a b =
     let same : length xs + b - (length xs + a) ≡ b - a = omega arith in
     ap (λ (k : ℕ). take k (drop (length xs + a) (xs ++ ys))) same

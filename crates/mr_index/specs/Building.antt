@@ -1,11 +1,13 @@
 -- Of no public promise: the triples that a part's tables show, and parts one after another.
-use Rattle.std.specs.Prelude.{◌≡◌, ℕ, ◌+◌, ◌≤◌, ◌==◌, if◌then◌else◌, List, [], ◌∷◌, ◌++◌, length, slice_range}
+use Rattle.std.specs.Prelude.{◌≡◌, ℕ, ◌+◌, ◌<◌, ◌≤◌, Option, None, Some, MatchOption, ◌==◌, if◌then◌else◌, List, [], ◌∷◌, ◌++◌, length, slice_range}
 use Rattle.std.specs.List.{AllByRecursion, flat_map}
+use Rattle.mr_bytes.specs.declared.Name.{Name}
 use Rattle.mr_bytes.specs.Pairs.{Triple}
-use Rattle.mr_jobs.specs.Emissions.{Emission}
+use Rattle.mr_jobs.specs.Emissions.{Emission, nth_emission}
 use Rattle.mr_sequential.specs.Emitted.{placed_from}
+use Rattle.mr_sequential.specs.Good.{named}
 use Rattle.mr_index.specs.Pairs.{EndsRise, filled, shifted}
-use Rattle.mr_index.specs.Pieces.{PieceView}
+use Rattle.mr_index.specs.Windows.{PieceView}
 
 -- the pairs of the records of a split, from `number` on, each record's from the end of those of the one before
 unfoldable pub numbered : ℕ → ℕ → ℕ → List ℕ → List Emission → List Triple
@@ -17,6 +19,18 @@ numbered split number at (e ∷ ends) pairs =
 -- end where it begins
 abbrev pub ended : ℕ → ℕ → ℕ → List ℕ → List ℕ
 ended number before after ends = if before == after then ends else filled number before ends ++ after ∷ []
+
+-- what a name tells among the pairs of the records from `first` on, which end at `ends`: the pair of this number, or none
+abbrev pub Tells : List ℕ → ℕ → Name → List Emission → Option ℕ → Type 0
+Tells ends first n pairs at =
+    MatchOption at (named (numbered n.split first 0 ends pairs) n ≡ None)
+    (λ i. (i < length pairs) × (named (numbered n.split first 0 ends pairs) n
+    ≡ Some (record { key = (nth_emission pairs i).0; value = (nth_emission pairs i).1; name = n })))
+
+-- the number of the pair at a place of a record, whatever the pairs are
+abbrev pub IsPlaceOf : List ℕ → ℕ → ℕ → Option ℕ → Type 0
+IsPlaceOf ends number place at = (first : ℕ) (n : Name) (pairs : List Emission) → EndsRise 0 (length pairs) ends → n.rec ≡ first + number → n.place ≡ place
+    → Tells ends first n pairs at
 
 -- all parts, one after another
 abbrev pub joined : List (List Triple) → List Triple

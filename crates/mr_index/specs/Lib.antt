@@ -1,4 +1,5 @@
 pub mod Index
 pub mod Pairs
+pub mod Windows
 pub mod Building
 pub mod Pieces

@@ -1,14 +1,10 @@
 -- A split that is divided in pieces, each of which is mapped by itself.
-use Rattle.std.specs.Prelude.{◌≡◌, ℕ, ◌<◌, List, ◌∷◌, length, slice_range, slice_index_or}
-use Rattle.std.specs.List.{flat_map}
+use Rattle.std.specs.Prelude.{◌≡◌, ℕ, ◌<◌, List, ◌∷◌, length, slice_index_or}
 use Rattle.mr_bytes.specs.declared.RecordName.{RecordName}
-use Rattle.mr_bytes.specs.Pairs.{Triple}
 use Rattle.mr_jobs.specs.JobSpec.{JobSpec}
-use Rattle.mr_jobs.specs.Emissions.{Emission}
 use Rattle.mr_splits.specs.Named.{NamedRecord, of_split}
 use Rattle.mr_splits.specs.Cut.{Cut, records_of}
-use Rattle.mr_sequential.specs.Emitted.{record_triples}
-use Rattle.mr_sequential.specs.Pairs.{kept_pairs}
+use Rattle.mr_index.specs.Windows.{PieceView, piece_of}
 
 -- a split of files that are cut, a job, the records that are left out, and where each piece ends: before the record of
 -- that number in the split
@@ -19,27 +15,13 @@ pub record Division : Type 0 where
   pub split : ℕ
   pub ends : List ℕ
 
--- what a piece gives: the records from one number in the split and before another, their pairs, and these with their names
-pub record PieceView : Type 0 where
-  pub split : ℕ
-  pub from : ℕ
-  pub end : ℕ
-  pub pairs : List Emission
-  pub triples : List Triple
-
 -- the records of the divided split
 abbrev pub records_divided : Division → List NamedRecord
 records_divided d = of_split d.split (records_of d.cut)
 
 -- what the records from one number and before another give
 abbrev pub piece_between : Division → ℕ → ℕ → PieceView
-piece_between d from end = record {
-  split = d.split;
-  from = from;
-  end = end;
-  pairs = flat_map (kept_pairs d.job d.skips) (slice_range (records_divided d) from end);
-  triples = flat_map (record_triples d.job d.skips) (slice_range (records_divided d) from end);
-}
+piece_between d from end = piece_of d.job (record { cut = d.cut; skips = d.skips }) d.split from end
 
 -- what the piece of that number gives: it begins where the one before ends
 abbrev pub piece_at : Division → ℕ → PieceView

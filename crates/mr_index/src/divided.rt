@@ -1,21 +1,19 @@
 //! A split that is divided in pieces, for several threads to map.
-ghost use Rattle.std.specs.Prelude.{◌≡◌, ℕ, ◌+◌, ◌≤◌, ◌<◌, ◌^◌, [], ◌∷◌, IfOk, OnOk, length};
+ghost use Rattle.std.specs.Prelude.{◌≡◌, ◌≤◌, ◌<◌, ◌∷◌, IfOk, length};
 ghost use Rattle.std.specs.Prelude.{slice_index_or};
 ghost use Rattle.mr_input.specs.Files.{split_total};
-ghost use Rattle.mr_jobs.specs.Hits.{IsLine};
-ghost use Rattle.mr_splits.specs.Named.{is_left_out, of_split};
-ghost use Rattle.mr_splits.specs.Cut.{records_of, nth_named};
+ghost use Rattle.mr_splits.specs.Named.{of_split};
+ghost use Rattle.mr_splits.specs.Cut.{records_of};
 ghost use Rattle.mr_index.specs.Index.{triples_in, triples_of};
-ghost use Rattle.mr_index.specs.Pairs.{pairs_seen, EndsRise, Sound};
-ghost use Rattle.mr_index.specs.Building.{Shows};
-ghost use Rattle.mr_index.specs.Pieces.{Divides, ArePieces, records_divided, piece_between};
-ghost use Rattle.mr_index.specs.Pieces.{piece_at};
+ghost use Rattle.mr_index.specs.Pairs.{EndsRise};
+ghost use Rattle.mr_index.specs.Pieces.{Divides, ArePieces, piece_at};
 
-use crate::part::{Mapping, Part, Room, Tables};
+use crate::part::Part;
 use crate::piece::{Piece, Sizes};
+use crate::window::Window;
 use mr_bytes::RecordName;
 use mr_jobs::Job;
-use mr_splits::{LeftOutSet, Plan, RecordAt};
+use mr_splits::{KeptPlan, Plan};
 use std::alloc::{AllocError, Global};
 use std::marker::Model;
 
@@ -23,10 +21,8 @@ use std::marker::Model;
 /// makes the split's part of them.
 #[derive(Drop)]
 pub struct DividedSplit<'a> {
-    plan: &'a Plan<'a>,
+    kept: KeptPlan<'a>,
     job: &'a Job,
-    skips: &'a [RecordName],
-    left_out: LeftOutSet,
     split: u32,
     /// Each piece ends before the record of this number.
     ends: Vec<u32>,
@@ -36,19 +32,24 @@ impl<'a> Model for DividedSplit<'a> {
     ghost use Rattle.std.specs.Prelude.{◌≡◌, ◌<◌, length};
     ghost use Rattle.mr_input.specs.Files.{split_total};
     ghost use Rattle.mr_splits.specs.Named.{of_split};
-    ghost use Rattle.mr_splits.specs.Cut.{left_out_flags, records_of};
+    ghost use Rattle.mr_splits.specs.Cut.{records_of};
     ghost use Rattle.mr_index.specs.Pairs.{EndsRise};
     ghost use Rattle.mr_index.specs.Pieces.{Division};
 
     ghost Value = { Division };
 
-    ghost view = { λ d. record { job = d.job.now; cut = d.plan.now; skips = d.skips.now; split = d.split; ends = d.ends.items } };
+    ghost view = { λ d. record {
+      job = d.job.now;
+      cut = d.kept.cut;
+      skips = d.kept.skips;
+      split = d.split;
+      ends = d.ends.items;
+    } };
 
     ghost invariant = { λ d. record {
-      left_out : d.left_out ≡ left_out_flags d.skips.now (records_of d.plan.now);
-      within : d.split < split_total d.plan.now.size d.plan.now.files;
+      within : d.split < split_total d.kept.cut.size d.kept.cut.files;
       some : 0 < length d.ends.items;
-      rise : EndsRise 0 (length (of_split d.split (records_of d.plan.now))) d.ends.items;
+      rise : EndsRise 0 (length (of_split d.split (records_of d.kept.cut))) d.ends.items;
     } };
 }
 
@@ -119,13 +120,11 @@ impl<'a> DividedSplit<'a> {
         requires some { 0 < count }
         ensures { IfOk result (λ d. Divides job.entry.now plan.entry.now skips.entry.now split count d) }
     {
-        let left_out = plan.left_out(alloc, skips)?;
+        let kept = plan.without(alloc, skips)?;
         let ends = piece_ends(alloc, plan, split, count)?;
         Ok(DividedSplit {
-            plan,
+            kept,
             job,
-            skips,
-            left_out,
             split,
             ends,
         })
@@ -136,8 +135,12 @@ impl<'a> DividedSplit<'a> {
         requires { number < length self.now.ends }
         ensures { IfOk result (λ p. p ≡ piece_at self.now number) }
     {
-        let from = before(self.ends.as_slice(), number as usize);
-        self.map_between(alloc, from, self.ends[number as usize])
+        let window = Window {
+            split: self.split,
+            from: before(self.ends.as_slice(), number as usize),
+            end: self.ends[number as usize],
+        };
+        Piece::map(alloc, &self.kept, self.job, window)
     }
 
     /// The part of the split, from all its pieces. The tables of the first one grow by those of the
@@ -148,7 +151,7 @@ impl<'a> DividedSplit<'a> {
             ≡ triples_in self.now.split (triples_of self.now.job self.now.cut self.now.skips)) }
     {
         // An input's files emit few enough pairs and bytes of keys for the tables.
-        let _files = self.plan.input().files();
+        let _files = self.kept.plan().input().files();
         let sizes = Sizes::of(pieces.as_slice());
         let mut rest = pieces.into_iter();
         let Some(first) = rest.next() else {
@@ -160,85 +163,5 @@ impl<'a> DividedSplit<'a> {
             tables.append(piece.from(), piece.tables())?;
         }
         Ok(Part::of_tables(self.split, tables))
-    }
-
-    fn leaves_out(&self, number: u32) -> bool
-        requires { number < length (records_divided self.now) }
-        ensures { result ≡ is_left_out self.now.skips (nth_named (records_divided self.now) number).name }
-    {
-        self.left_out
-            .has(self.plan.record_index(self.split, number))
-    }
-
-    fn locate(&self, number: u32) -> RecordAt<'a>
-        requires { number < length (records_divided self.now) }
-        ensures record { nth_named (records_divided self.now) number
-            ≡ record { name = record { split = self.now.split; rec = number }; file = result.file; start = result.start; bytes = result.bytes.now } }
-        ensures line { IsLine self.now.cut.files result.file result.start result.bytes.now }
-        ensures small { length result.bytes.now ≤ 2 ^ 30 }
-    {
-        self.plan.locate(self.split, number)
-    }
-
-    fn room(&self, from: u32, end: u32) -> Room
-        requires { (from ≤ end) × (end ≤ length (records_divided self.now)) }
-    {
-        if from == end {
-            return Room {
-                records: 0,
-                bytes: 0,
-            };
-        }
-        let last = self.locate(end - 1);
-        let bytes = (last.start as usize)
-            .saturating_add(last.bytes.len())
-            .saturating_sub(self.locate(from).start as usize);
-        Room {
-            records: (end - from) as usize,
-            bytes,
-        }
-    }
-
-    /// Appends what record `number`, if kept, emits to the tables of the records from `from` on.
-    fn map_one(
-        &self,
-        tables: &mut Tables,
-        from: u32,
-        number: u32,
-        mapping: &mut Mapping<'_>,
-    ) -> Result<(), AllocError>
-        requires source { mapping.old.mapper
-            ≡ record { job = self.now.job; files = self.now.cut.files } }
-        requires within { (from ≤ number) × (number < length (records_divided self.now)) }
-        requires sound { Sound tables.old.pairs }
-        requires shows { Shows (piece_between self.now from number) tables.old.ends.items
-            (pairs_seen tables.old.pairs) }
-        requires few { mapping.old.mapped ≤ number }
-        ensures same { mapping.new.mapper ≡ mapping.old.mapper }
-        ensures sound { OnOk result (Sound tables.new.pairs) }
-        ensures shows { OnOk result (Shows (piece_between self.now from (number
-            + 1)) tables.new.ends.items (pairs_seen tables.new.pairs)) }
-        ensures few { OnOk result (mapping.new.mapped ≤ number + 1) }
-    {
-        if self.leaves_out(number) {
-            return Ok(());
-        }
-        // As in `join`.
-        let _files = self.plan.input().files();
-        let line = self.locate(number);
-        tables.map_record((number - from) as usize, line, mapping)?;
-        Ok(())
-    }
-
-    fn map_between(&self, alloc: Global, from: u32, end: u32) -> Result<Piece, AllocError>
-        requires { (from ≤ end) × (end ≤ length (records_divided self.now)) }
-        ensures { IfOk result (λ p. p ≡ piece_between self.now from end) }
-    {
-        let mut mapping = Mapping::new(alloc, self.plan, self.job);
-        let mut tables = Tables::new(alloc, self.room(from, end));
-        for number in from..end {
-            self.map_one(&mut tables, from, number, &mut mapping)?;
-        }
-        Ok(Piece::of_tables(self.split, from, end, tables))
     }
 }

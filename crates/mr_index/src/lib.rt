@@ -6,8 +6,10 @@ mod index;
 mod pairs;
 mod part;
 mod piece;
+mod window;
 
 pub use divided::DividedSplit;
 pub use index::{EmissionIndex, Meter};
 pub use part::{PairRef, Part};
 pub use piece::Piece;
+pub use window::{Window, windows};

@@ -1,6 +1,6 @@
 //! Keys with their values, in order, in one buffer: no key takes an allocation of its own.
 ghost use Rattle.std.specs.Prelude.{◌≡◌, ℕ, ◌+◌, ◌≤◌, ◌<◌, ◌^◌, ◌++◌, [], ◌∷◌, All, IfOk, OnOk};
-ghost use Rattle.std.specs.Prelude.{MatchOption, length, slice_index, slice_index_or};
+ghost use Rattle.std.specs.Prelude.{MatchOption, length, slice_index, slice_index_or, slice_range};
 ghost use Rattle.mr_bytes.specs.declared.Value.TheVariants.{One};
 ghost use Rattle.mr_jobs.specs.Emissions.{emissions};
 ghost use Rattle.mr_jobs.specs.Hits.{IsLine};
@@ -130,6 +130,18 @@ impl Pairs {
         let start = start_of(self.ends.as_slice(), i);
         let value = self.values.get(i);
         (&self.keys[start..self.ends[i] as usize], value)
+    }
+
+    /// The bytes of all keys, and where among them that of pair `i` begins and ends.
+    #[inline]
+    pub(crate) fn key_at(&self, i: usize) -> (&[u8], usize, usize)
+        requires sound { Sound self.now }
+        requires within { i < length (pairs_seen self.now) }
+        ensures { slice_range result.0.now result.1 result.2
+            ≡ (slice_index_or (pairs_seen self.now) i ([], One)).0 }
+    {
+        let start = start_of(self.ends.as_slice(), i);
+        (self.keys.as_slice(), start, self.ends[i] as usize)
     }
 
     fn push(&mut self, key: &[u8], value: Value) -> Result<(), AllocError>

@@ -13,7 +13,7 @@ ghost use Rattle.mr_sequential.specs.Good.{named};
 ghost use Rattle.mr_sequential.specs.Pairs.{kept_pairs};
 ghost use Rattle.mr_index.specs.Index.{mapped_among, triples_in, triples_of};
 ghost use Rattle.mr_index.specs.Pairs.{pairs_seen, EndsRise, Sound, Fits};
-ghost use Rattle.mr_index.specs.Building.{numbered, ended};
+ghost use Rattle.mr_index.specs.Building.{numbered, ended, IsPlaceOf};
 
 use crate::pairs::{Pairs, fill, push_end, start_of};
 use mr_bytes::{Name, Phase, Progress, Throttle, Value};
@@ -104,19 +104,32 @@ impl Part {
             (λ f. named self.now name ≡ Some (record { key = f.0; value = f.1; name = name })) }
     {
         let Name { split, rec, place } = name;
-        let number = rec as usize;
-        if split != self.split || self.ends.len() <= number {
+        if split != self.split {
             return None;
         }
-        let at = start_of(self.ends.as_slice(), number) + place as usize;
-        if self.ends[number] as usize <= at {
-            return None;
+        match place_of(self.ends.as_slice(), rec as usize, place) {
+            None => None,
+            Some(at) => Some(PairRef {
+                pairs: &self.pairs,
+                at,
+            }),
         }
-        Some(PairRef {
-            pairs: &self.pairs,
-            at,
-        })
     }
+}
+
+/// The number of a pair among all, from its place and its record's number, if there is such a pair.
+#[inline]
+pub(crate) fn place_of(ends: &[u32], number: usize, place: u32) -> Option<usize>
+    ensures { IsPlaceOf ends.now number place result }
+{
+    if ends.len() <= number {
+        return None;
+    }
+    let start = start_of(ends, number);
+    if (ends[number] as usize).saturating_sub(start) <= place as usize {
+        return None;
+    }
+    Some(start + place as usize)
 }
 
 /// Room for some records in tables: for as many records, and for bytes of keys.

@@ -1,10 +1,13 @@
 //! What some of a split's records emit, as tables that can be appended to one another.
-ghost use Rattle.std.specs.Prelude.{◌≡◌, ℕ, ◌+◌, ◌≤◌, ◌<◌, ◌^◌, ◌++◌, IfOk, OnOk, length};
+ghost use Rattle.std.specs.Prelude.{◌≡◌, ℕ, ◌+◌, ◌≤◌, ◌<◌, ◌^◌, ◌++◌, OnOk, MatchOption, None};
+ghost use Rattle.std.specs.Prelude.{length, slice_range};
+ghost use Rattle.mr_sequential.specs.Good.{named};
 ghost use Rattle.mr_index.specs.Pairs.{pairs_seen, EndsRise, Sound, Fits};
 ghost use Rattle.mr_index.specs.Building.{appended, Shows};
+ghost use Rattle.mr_index.specs.Windows.{HasKey, name_in};
 
 use crate::pairs::{fill, push_shifted};
-use crate::part::Tables;
+use crate::part::{Tables, place_of};
 use std::alloc::AllocError;
 use std::marker::Model;
 
@@ -22,7 +25,7 @@ impl Model for Piece {
     ghost use Rattle.std.specs.Prelude.{◌≡◌, ◌+◌, ◌≤◌, length};
     ghost use Rattle.mr_index.specs.Pairs.{pairs_seen, EndsRise, Sound};
     ghost use Rattle.mr_index.specs.Building.{numbered};
-    ghost use Rattle.mr_index.specs.Pieces.{PieceView};
+    ghost use Rattle.mr_index.specs.Windows.{PieceView};
 
     ghost Value = { PieceView };
 
@@ -85,6 +88,29 @@ impl Piece {
             from,
             end,
             tables,
+        }
+    }
+
+    /// The number of pairs.
+    pub fn len(&self) -> usize
+        ensures { result ≡ length self.now.triples }
+    {
+        self.tables.pairs.len()
+    }
+
+    /// The bytes of all keys, and where among them the key begins and ends of the pair at `place` of
+    /// the piece's record `number`, counted from its first, if there is such a pair. It reads no byte
+    /// of the key and allocates nothing.
+    #[inline]
+    pub fn key(&self, number: u32, place: u32) -> Option<(&[u8], usize, usize)>
+        ensures { MatchOption result (named self.now.triples (name_in self.now number place) ≡ None)
+            (λ k. HasKey self.now.triples (name_in self.now number place)
+            (slice_range k.0.now k.1 k.2)) }
+    {
+        let Tables { ends, pairs, .. } = &self.tables;
+        match place_of(ends.as_slice(), number as usize, place) {
+            None => None,
+            Some(at) => Some(pairs.key_at(at)),
         }
     }
 

@@ -5,6 +5,7 @@ pub mod Faults
 mod FromLemmas
 pub mod GrammarLemmas
 pub mod JudgeLemmas
+pub mod JudgedRows
 pub mod JudgingLemmas
 pub mod KindLemmas
 pub mod LineLemmas

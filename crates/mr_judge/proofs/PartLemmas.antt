@@ -83,7 +83,7 @@ behind_room s st (suc k) more all r = record { next = omega arith; group = omega
 less_room : (st : Reached) (more all : ℕ) → Room st (more + 1) all → Room st more all
 less_room st more all r = record { next = omega arith; group = omega arith; entry = omega arith; named = omega arith; values = omega arith }
 
-entry_room : (s : Subject) (st : Reached) (o : Option Triple) (more all : ℕ) → Room st (more + 1) all → Room (after_entry s st o) more all
+pub entry_room : (s : Subject) (st : Reached) (o : Option Triple) (more all : ℕ) → Room st (more + 1) all → Room (after_entry s st o) more all
 entry_room s st None more all r = less_room st more all r
 entry_room s st (Some t) more all r = behind_room s (with_entry st t st.entry) (st.entries - 1) more all (with_room st t st.entry more all refl r)
 

@@ -1,18 +1,20 @@
 -- Rows that are judged in turn, whatever holds the outputs.
-use Rattle.std.proofs.Common.{◌≡◌, ℕ, ◌+◌, ◌<◌, true, false, List, ◌∷◌, length, drop, get_or, sym, subst}
-use Rattle.std.specs.Prelude.{Ok, Err}
+use Rattle.std.proofs.Common.{◌≡◌, ℕ, ◌+◌, ◌<◌, true, false, List, [], ◌∷◌, length, drop, get_or, refl, ap, sym, subst, ◌∙◌}
+use Rattle.std.specs.Prelude.{Ok, Err, nat_le}
 use Rattle.std.proofs.lemmas.List.{drop_more}
 use Rattle.mr_certform.specs.declared.grammar_state.Item.{Item}
 use Rattle.mr_certform.specs.declared.grammar_state.Item.TheVariants.{End}
 use Rattle.mr_judge.specs.declared.border.FoundItem.{FoundItem}
+use Rattle.mr_verdict.specs.declared.answers.No.{No}
+use Rattle.mr_verdict.specs.declared.answers.No.TheVariants.{Unnamed}
 use Rattle.mr_verdict.specs.declared.items.JudgeError.{JudgeError}
 use Rattle.mr_verdict.specs.declared.items.JudgeError.TheVariants.{Fault, Device, TooLong, Output, LongOutput}
-use Rattle.mr_verdict.specs.Verdict.{Reached, tests, after}
-use Rattle.mr_verdict.specs.Steps.{Ground, subject_with}
+use Rattle.mr_verdict.specs.Verdict.{Reached, passes, tests, after}
+use Rattle.mr_verdict.specs.Steps.{Answers, Ground, subject_with}
 use Rattle.mr_judge.specs.Blocks.{items_in, Judged}
-use Rattle.mr_judge.specs.Outputs.{Ahead, Onward, Tested, RowsJudged, begins}
+use Rattle.mr_judge.specs.Outputs.{Ahead, CanCome, Onward, Tested, RowsJudged, begins}
 use Rattle.mr_judge.proofs.BlockLemmas.{Stands, blank, stands_next, stands_more, stands_ended, stands_fault, stands_all}
-use Rattle.mr_judge.proofs.OutputLemmas.{onward_then, onward_through, onward_as}
+use Rattle.mr_judge.proofs.OutputLemmas.{onward_same, onward_then, onward_through, onward_as, through_all}
 
 -- so many of the rows stood
 abbrev pub StoodTo : Ground → Reached → Reached → ℕ → List FoundItem → List (List ℕ) → Type 0
@@ -20,6 +22,19 @@ StoodTo b old st i rows outs = Stands (subject_with b outs) old st i (items_in (
 
 abbrev pub item_at : List FoundItem → ℕ → Item
 item_at rows i = (get_or rows i blank).item
+
+-- the end is tested of the number of all pairs
+abbrev pub named_tests : Ground → Reached → List No
+named_tests b st = passes (nat_le (length b.triples) st.named) (Unnamed (length b.triples) st.named)
+
+pub end_fine : (b : Ground) (now : Ahead) (st : Reached) (i : Item) (u : Unit {0}) → i ≡ End → named_tests b st ≡ [] → Tested now now st st (λ outs. tests (subject_with b outs) st i) (λ outs. after (subject_with b outs) st i) (Ok u)
+end_fine b now st i u e none =
+    onward_same now st st (λ outs. (tests (subject_with b outs) st i ≡ []) × (st ≡ after (subject_with b outs) st i)) refl
+    (λ outs. (ap (tests (subject_with b outs) st) e ∙ none, sym (ap (after (subject_with b outs) st) e)))
+
+pub end_fault : (b : Ground) (now : Ahead) (st : Reached) (i : Item) (f : No) → i ≡ End → CanCome now → Answers (named_tests b st) f → Tested now now st st (λ outs. tests (subject_with b outs) st i) (λ outs. after (subject_with b outs) st i) (Err (Fault f))
+end_fault b now st i f e some told =
+    through_all now st (λ outs. Answers (tests (subject_with b outs) st i) f) some (λ outs. subst (λ fs. Answers fs f) (sym (ap (tests (subject_with b outs) st) e)) told)
 
 pub rows_fault : (b : Ground) (old now new : Ahead) (st0 st next last : Reached) (i : ℕ) (rows : List FoundItem) (e : JudgeError) → i < length rows → Onward old now st0 st (StoodTo b st0 st i rows)
     → Tested now new st next (λ outs. tests (subject_with b outs) st (item_at rows i)) (λ outs. after (subject_with b outs) st (item_at rows i)) (Err e) → RowsJudged old new b st0 last (items_in rows) (Err e)

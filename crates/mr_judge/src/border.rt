@@ -11,10 +11,9 @@ ghost use Rattle.mr_bytes.specs.Pairs.{Triple};
 ghost use Rattle.mr_verdict.specs.Items.{CanCome, Stops};
 ghost use Rattle.mr_judge.specs.Blocks.{has_end, Read, items_sought, items_in, IsPlaced, IsFound};
 
-use crate::entry_tests::Basis;
 use mr_bytes::Value;
 use mr_certform::Item;
-use mr_index::{Meter, PairRef};
+use mr_index::{EmissionIndex, Meter, PairRef};
 use mr_verdict::{ItemError, ItemSource, JudgeError};
 use std::alloc::AllocError;
 
@@ -81,15 +80,15 @@ pub struct FoundItem<'a> {
     pub found: Option<(&'a [u8], Value)>,
 }
 
-fn seek<'a>(basis: &Basis<'a>, item: Item, meter: &mut Meter) -> Sought<'a>
+fn seek<'a>(index: &'a EmissionIndex, item: Item, meter: &mut Meter) -> Sought<'a>
     requires { meter.old.lookups + entries_in (item ∷ []) < 2 ^ 64 }
     ensures item { result.item ≡ item }
-    ensures placed { IsPlaced basis.now.triples result }
+    ensures placed { IsPlaced index.entry.now result }
     ensures lookups { meter.new.lookups ≡ meter.old.lookups + entries_in (item ∷ []) }
     ensures mapped { meter.new.mapped ≡ meter.old.mapped }
 {
     let place = match item {
-        Item::Entry(name) => basis.find(name, meter),
+        Item::Entry(name) => index.find(name, meter),
         _ => None,
     };
     Sought { item, place }
@@ -154,14 +153,14 @@ pub fn read_block<I: ItemSource>(
 /// Looks up all names among the items, and replaces the list.
 #[inline(never)]
 pub fn seek_all<'a>(
-    basis: &Basis<'a>,
+    index: &'a EmissionIndex,
     items: &[Item],
     sought: &mut Vec<Sought<'a>>,
     meter: &mut Meter,
 ) -> Result<(), AllocError>
     requires { meter.old.lookups + entries_in items.now < 2 ^ 64 }
     ensures items { OnOk result (items_sought sought.new.items ≡ items.now) }
-    ensures placed { OnOk result (AllByRecursion (IsPlaced basis.now.triples) sought.new.items) }
+    ensures placed { OnOk result (AllByRecursion (IsPlaced index.entry.now) sought.new.items) }
     ensures lookups { (meter.old.lookups ≤ meter.new.lookups)
         × (meter.new.lookups ≤ meter.old.lookups + entries_in items.now) }
     ensures all { OnOk result (meter.new.lookups ≡ meter.old.lookups + entries_in items.now) }
@@ -169,7 +168,7 @@ pub fn seek_all<'a>(
 {
     sought.clear();
     for item in items {
-        let one = seek(basis, *item, meter);
+        let one = seek(index, *item, meter);
         keep(sought, one)?;
     }
     Ok(())

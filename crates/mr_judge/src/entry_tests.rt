@@ -1,28 +1,21 @@
-//! The tests of entries and of outputs, and what they are judged against.
-ghost use Rattle.std.specs.Prelude.{◌≡◌, ◌+◌, [], MatchResult, OnOk, length, nat_le, ◌<◌, ◌^◌};
-ghost use Rattle.std.specs.Prelude.{MatchOption, None, Some, nat_eq};
+//! The tests of entries and of outputs.
+ghost use Rattle.std.specs.Prelude.{◌≡◌, ◌+◌, [], MatchResult, OnOk, length, nat_le, nat_eq};
 ghost use Rattle.std.specs.Option.{option_map};
 ghost use Rattle.mr_sequential.specs.Rules.{rules_of, part};
 ghost use Rattle.mr_verdict.specs.Verdict.{passes, first_tests, later_tests};
 ghost use Rattle.mr_verdict.specs.Steps.{Answers};
 ghost use Rattle.mr_judge.specs.Outputs.{CanCome, EndTold, TextTold, Halts};
-ghost use Rattle.mr_reduce.specs.Text.{text_of};
-ghost use Rattle.mr_sequential.specs.Good.{named};
 ghost use Rattle.std.specs.List.{common_prefix_len};
 ghost use Rattle.std.specs.Ordering.{is_lt};
 ghost use Rattle.mr_bytes.specs.Order.{key_order, name_order};
 
 use crate::outputs::Outputs;
-use mr_bytes::{Name, ValueColumn, compare_keys, compare_names};
-use mr_index::{EmissionIndex, Meter, PairRef};
-use mr_jobs::{Job, Request};
+use mr_bytes::{Name, compare_keys, compare_names};
+use mr_jobs::Request;
 use mr_lanes::first_difference;
 use mr_partition::partition_by;
-use mr_reduce::append_text;
 use mr_verdict::{JudgeError, No};
-use std::alloc::AllocError;
 use std::cmp::Ordering;
-use std::marker::Model;
 
 /// Whether the output ends where its partition has no more groups.
 pub(crate) fn test_end<O: Outputs>(outputs: &mut O, p: u64, groups: u64) -> Result<(), JudgeError>
@@ -63,19 +56,26 @@ pub(crate) fn test_text<O: Outputs>(outputs: &mut O, p: u64, text: &[u8]) -> Res
     }))
 }
 
+/// The partition of a key.
+fn part_of(request: &Request, key: &[u8]) -> u64
+    ensures { result ≡ part request.now key.now }
+{
+    u64::from(partition_by(request.by(), key, request.parts()))
+}
+
 /// A first entry's tests: its key is of this partition, and past that of the group before.
 pub(crate) fn test_first(
-    basis: &Basis<'_>,
+    request: &Request,
     p: u64,
     group: u64,
     key_before: Option<&[u8]>,
     key: &[u8],
 ) -> Result<(), No>
-    ensures { let fs = first_tests (rules_of basis.now.request).part p group (option_map
+    ensures { let fs = first_tests (rules_of request.now).part p group (option_map
         (λ r. r.now) key_before.entry) key.now in MatchResult result
         (λ _. fs ≡ []) (λ e. Answers fs e) }
 {
-    if basis.part(key) != p {
+    if part_of(request, key) != p {
         return Err(No::WrongPartition {
             partition: p,
             group,
@@ -145,67 +145,6 @@ pub fn test_named(emitted: u64, named: u64) -> Result<(), No>
         return Err(No::Unnamed { emitted, named });
     }
     Ok(())
-}
-
-/// What the groups are judged against: all emitted pairs, and the request.
-#[derive(Drop)]
-pub struct Basis<'a> {
-    pub request: &'a Request,
-    pub index: &'a EmissionIndex,
-}
-
-impl<'a> Model for Basis<'a> {
-    ghost use Rattle.mr_verdict.specs.Steps.{Ground};
-
-    ghost Value = { Ground };
-
-    ghost view = { λ b. record { request = b.request.now; triples = b.index.now } };
-}
-
-impl<'a> Basis<'a> {
-    pub fn part(&self, key: &[u8]) -> u64
-        ensures { result ≡ part self.now.request key.now }
-    {
-        u64::from(partition_by(self.request.by(), key, self.request.parts()))
-    }
-
-    pub fn job(&self) -> &'a Job
-        ensures { result.now ≡ self.now.request.job }
-    {
-        self.request.job()
-    }
-
-    /// The text of a group, in place of what is in `out`.
-    pub fn text(
-        &self,
-        key: &[u8],
-        values: &ValueColumn,
-        out: &mut Vec<u8>,
-    ) -> Result<(), AllocError>
-        ensures { OnOk result (out.new.items ≡ text_of self.now.request.job key.now values.now) }
-    {
-        out.clear();
-        append_text(self.request.job(), key, values, out)
-    }
-
-    /// The emitted pair of this name, if there is one. It counts as one look-up.
-    pub fn find(&self, name: Name, meter: &mut Meter) -> Option<PairRef<'a>>
-        requires { meter.old.lookups + 1 < 2 ^ 64 }
-        ensures found { MatchOption result (named self.now.triples name ≡ None)
-            (λ f. named self.now.triples name ≡ Some (record { key = f.0; value = f.1; name = name })) }
-        ensures lookups { meter.new.lookups ≡ meter.old.lookups + 1 }
-        ensures mapped { meter.new.mapped ≡ meter.old.mapped }
-    {
-        let index = self.index;
-        index.find(name, meter)
-    }
-
-    /// The number of emitted pairs.
-    pub fn emitted(&self) -> u64
-        ensures { result ≡ length self.now.triples }
-    {
-        self.index.total()
-    }
 }
 
 pub(crate) fn is_key_less(before: &[u8], key: &[u8]) -> bool

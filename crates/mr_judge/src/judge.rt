@@ -20,7 +20,6 @@ ghost use Rattle.mr_verdict.specs.Items.{CanCome, Each};
 ghost use Rattle.mr_judge.specs.Outputs.{CanCome as CanComeAhead, Fits, Through, RestJudged};
 ghost use Rattle.mr_judge.specs.Outputs.{AllJudged, HaltsItems, HaltsOutputs, begins};
 
-use crate::entry_tests::Basis;
 use crate::outputs::{MemoryOutputs, Outputs};
 use crate::parts::{Work, check_parts};
 use mr_bytes::{Progress, Unwatched};
@@ -86,11 +85,7 @@ fn check_rest<I: ItemSource, O: Outputs>(
         let _few = plan.count();
         let meter = &mut work.meter;
         let index = EmissionIndex::of_watched(work.alloc, &kept, request.job(), meter, watch)?;
-        let basis = Basis {
-            request,
-            index: &index,
-        };
-        check_parts(&basis, outputs, walker, work, watch)?
+        check_parts(request, &index, outputs, walker, work, watch)?
     };
     Ok(Yes { skips, pairs })
 }
@@ -166,13 +161,9 @@ fn judge_at_hand(case: &Case<'_>, work: &mut Work, progress: &dyn Progress) -> R
     }
 }
 
-/// Judges a case as `check` does. It reports now and then to `progress` how many records are
-/// mapped, and after that how many pairs are judged.
-pub fn judge_on_one_thread(
-    alloc: Global,
-    case: &Case<'_>,
-    progress: &dyn Progress,
-) -> Result<Yes, No>
+/// The verdict on a case. It looks up each entry in an index of all pairs. It reports now and then to
+/// `progress` how many records are mapped, and after that how many pairs are judged.
+pub fn judge_plainly(alloc: Global, case: &Case<'_>, progress: &dyn Progress) -> Result<Yes, No>
     ensures headline { IfOk result (IsWorth case.now) }
     ensures yes { IfOk result (λ y. verdict_on case.now ≡ Ok (accepted_of y)) }
     ensures no { IfErr result (λ e. (e ≡ OutOfMemory) ⊎ (verdict_on case.now ≡ Err e)) }
@@ -180,37 +171,8 @@ pub fn judge_on_one_thread(
     judge_at_hand(case, &mut Work::new(alloc), progress)
 }
 
-/// Judges a result of the request over the input: the partitions' outputs and the certificate's
-/// bytes. It trusts no worker. Returns `Yes` exactly where the result is good (`yes_law`): the
-/// outputs are byte for byte those of the sequential execution without the records that the
-/// certificate lists. Otherwise it returns the first fault, or `OutOfMemory`. The input's splits
-/// must fit (`Request::fits`).
-pub fn check(
-    alloc: Global,
-    request: &Request,
-    input: &Input,
-    outputs: &[Vec<u8>],
-    certificate: &[u8],
-) -> Result<Yes, No>
-    requires { split_total request.now.split input.now ≤ 2 ^ 20 }
-    ensures headline { IfOk result (λ y. IsCertified request.now input.now
-        (contents outputs.now) certificate.now y.skips.items y.pairs) }
-    ensures yes { IfOk result
-        (λ y. verdict_of request.now input.now (contents outputs.now) certificate.now ≡ Ok (accepted_of y)) }
-    ensures no { IfErr result (λ e. (e ≡ OutOfMemory)
-        ⊎ (verdict_of request.now input.now (contents outputs.now) certificate.now ≡ Err e)) }
-{
-    let case = Case {
-        request,
-        input,
-        outputs,
-        certificate,
-    };
-    judge_on_one_thread(alloc, &case, &Unwatched)
-}
-
-/// What `check` does, adding what it looks up and maps to the meter, whose counts are at most 2^63
-/// before. It looks up each entry and maps each record at most once; on a yes, each pair and each
+/// What `judge_plainly` does, adding what it looks up and maps to the meter, whose counts are at most
+/// 2^63 before. It looks up each entry and maps each record at most once; on a yes, each pair and each
 /// record that isn't left out exactly once. The clauses speak only of the meter. That nothing is
 /// looked up or mapped uncounted rests on the code of the index. On a no they say only that counts
 /// didn't fall and stayed within bounds.

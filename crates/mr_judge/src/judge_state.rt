@@ -1,25 +1,24 @@
 //! The state of the judge in the partitions, and its steps, item by item.
-ghost use Rattle.std.specs.Prelude.{◌≡◌, ◌<◌, ◌≤◌, ◌+◌, ◌-◌, ◌^◌, ◌++◌, ◌∷◌, [], MatchOption};
+ghost use Rattle.std.specs.Prelude.{◌≡◌, ◌<◌, ◌≤◌, ◌+◌, ◌-◌, ◌^◌, ◌++◌, ◌∷◌, []};
 ghost use Rattle.std.specs.Prelude.{MatchResult, OnOk, None, Some, true, length};
-ghost use Rattle.mr_sequential.specs.Good.{named};
 ghost use Rattle.mr_input.specs.Files.{nth_file};
 ghost use Rattle.mr_sequential.specs.Rules.{rules_of};
 ghost use Rattle.mr_certform.specs.declared.grammar_state.Item.TheVariants.{Entry};
 ghost use Rattle.mr_verdict.specs.Verdict.{start, first_tests, later_tests, order_tests};
 ghost use Rattle.mr_verdict.specs.Verdict.{with_entry, group_tests, behind_group, entry_tests};
-ghost use Rattle.mr_verdict.specs.Verdict.{after_entry};
-ghost use Rattle.mr_verdict.specs.Verdict.{tests, after, end_tests};
-ghost use Rattle.mr_verdict.specs.Steps.{subject_with, Answers, HasRoom, opens};
-ghost use Rattle.mr_judge.specs.Blocks.{IsFound};
+ghost use Rattle.mr_verdict.specs.Verdict.{after_entry, end_tests};
+ghost use Rattle.mr_verdict.specs.Steps.{Answers, HasRoom, opens};
+ghost use Rattle.mr_judge.specs.Rows.{row_subject, brought, row_tests, row_after};
 ghost use Rattle.mr_judge.specs.Borders.{at_border, between};
 ghost use Rattle.mr_judge.specs.Outputs.{CanCome, Tested, Halts};
 
 use crate::border::{Border, FoundItem};
-use crate::entry_tests::{Basis, EntryPlace, test_end, test_first, test_later, test_named};
+use crate::entry_tests::{EntryPlace, test_end, test_first, test_later};
 use crate::lines::test_group;
 use crate::outputs::Outputs;
 use mr_bytes::{Name, Value, ValueColumn};
 use mr_certform::Item;
+use mr_jobs::Request;
 use mr_verdict::{JudgeError, No};
 use std::alloc::{AllocError, Global};
 use std::marker::Model;
@@ -116,7 +115,7 @@ impl<'a> JudgeState<'a> {
         self.named
     }
 
-    fn partition(&self) -> u64
+    pub fn partition(&self) -> u64
         ensures { result ≡ self.now.next - 1 }
     {
         self.next.saturating_sub(1)
@@ -219,7 +218,7 @@ impl<'a> JudgeState<'a> {
     /// Tests a whole group's text, and the end of its partition where it is the last.
     fn end_group<O: Outputs>(
         &mut self,
-        basis: &Basis<'_>,
+        request: &Request,
         outputs: &mut O,
         p: u64,
     ) -> Result<(), JudgeError>
@@ -229,14 +228,14 @@ impl<'a> JudgeState<'a> {
         requires some { CanCome (O.gives outputs.old) }
         requires place { O.place outputs.old ≡ self.old.from }
         ensures tested { Tested (O.gives outputs.old) (O.gives outputs.new) self.old self.new
-            (λ outs. group_tests (subject_with basis.now outs) p self.old 0)
-            (λ outs. behind_group (subject_with basis.now outs) self.old 0) result }
+            (λ outs. group_tests (row_subject request.now outs) p self.old 0)
+            (λ outs. behind_group (row_subject request.now outs) self.old 0) result }
         ensures some { CanCome (O.gives outputs.new) }
         ensures place { OnOk result (O.place outputs.new ≡ self.new.from) }
         ensures begun { O.begun outputs.new }
         ensures halts { Halts O.steady (O.failed outputs.old) (O.failed outputs.new) result }
     {
-        test_group(outputs, basis, p, self.key, &self.values, &mut self.text)?;
+        test_group(outputs, request, p, self.key, &self.values, &mut self.text)?;
         test_end(outputs, p, self.groups.saturating_sub(1))?;
         self.close_group(outputs.place());
         Ok(())
@@ -244,19 +243,19 @@ impl<'a> JudgeState<'a> {
 
     fn first_entry(
         &mut self,
-        basis: &Basis<'_>,
+        request: &Request,
         name: Name,
         key: &'a [u8],
         value: Value,
     ) -> Result<(), No>
         requires { HasRoom self.old }
-        ensures { let fs = first_tests (rules_of basis.now.request).part
+        ensures { let fs = first_tests (rules_of request.now).part
             (self.old.next - 1) self.old.group self.old.key_before key.entry.now in
             MatchResult result (λ _. (fs ≡ []) × (self.new
             ≡ with_entry self.old (record { key = key.entry.now; value = value; name = name }) 0))
             (λ e. Answers fs e) }
     {
-        test_first(basis, self.partition(), self.group, self.key_before, key)?;
+        test_first(request, self.partition(), self.group, self.key_before, key)?;
         self.take_first(name, key, value)?;
         Ok(())
     }
@@ -282,13 +281,13 @@ impl<'a> JudgeState<'a> {
     #[tactic(auto, using(crate::proofs::Faults::order_zero, crate::proofs::Faults::with_zero, crate::proofs::Faults::order_suc, crate::proofs::Faults::with_suc))]
     fn order_entry(
         &mut self,
-        basis: &Basis<'_>,
+        request: &Request,
         name: Name,
         key: &'a [u8],
         value: Value,
     ) -> Result<(), No>
         requires { HasRoom self.old }
-        ensures { let fs = order_tests (rules_of basis.now.request).part
+        ensures { let fs = order_tests (rules_of request.now).part
             (self.old.next - 1) self.old name key.entry.now self.old.entry in
             MatchResult result (λ _. (fs ≡ [])
             × (self.new ≡ with_entry self.old
@@ -296,7 +295,7 @@ impl<'a> JudgeState<'a> {
             (λ e. Answers fs e) }
     {
         if self.entry == 0 {
-            self.first_entry(basis, name, key, value)
+            self.first_entry(request, name, key, value)
         } else {
             self.later_entry(name, key, value)
         }
@@ -305,7 +304,7 @@ impl<'a> JudgeState<'a> {
     /// Ends the group where no entry is left.
     fn end_entry<O: Outputs>(
         &mut self,
-        basis: &Basis<'_>,
+        request: &Request,
         outputs: &mut O,
         p: u64,
     ) -> Result<(), JudgeError>
@@ -315,15 +314,15 @@ impl<'a> JudgeState<'a> {
         requires some { CanCome (O.gives outputs.old) }
         requires place { O.place outputs.old ≡ self.old.from }
         ensures tested { Tested (O.gives outputs.old) (O.gives outputs.new) self.old self.new
-            (λ outs. group_tests (subject_with basis.now outs) p self.old self.old.entries)
-            (λ outs. behind_group (subject_with basis.now outs) self.old self.old.entries) result }
+            (λ outs. group_tests (row_subject request.now outs) p self.old self.old.entries)
+            (λ outs. behind_group (row_subject request.now outs) self.old self.old.entries) result }
         ensures some { CanCome (O.gives outputs.new) }
         ensures place { OnOk result (O.place outputs.new ≡ self.new.from) }
         ensures begun { O.begun outputs.new }
         ensures halts { Halts O.steady (O.failed outputs.old) (O.failed outputs.new) result }
     {
         if self.entries == 0 {
-            self.end_group(basis, outputs, p)
+            self.end_group(request, outputs, p)
         } else {
             Ok(())
         }
@@ -331,21 +330,19 @@ impl<'a> JudgeState<'a> {
 
     fn found_entry<O: Outputs>(
         &mut self,
-        basis: &Basis<'_>,
+        request: &Request,
         outputs: &mut O,
         name: Name,
         found: (&'a [u8], Value),
     ) -> Result<(), JudgeError>
         requires room { HasRoom self.old }
-        requires found { named basis.now.triples name
-            ≡ Some (record { key = found.0.now; value = found.1; name = name }) }
         requires begun { O.begun outputs.old }
         requires some { CanCome (O.gives outputs.old) }
         requires place { O.place outputs.old ≡ self.old.from }
-        ensures tested { let t = named basis.now.triples name in
+        ensures tested { let t = Some (record { key = found.entry.0.now; value = found.entry.1; name = name }) in
             Tested (O.gives outputs.old) (O.gives outputs.new) self.old self.new
-            (λ outs. entry_tests (subject_with basis.now outs) (self.old.next - 1) self.old name t)
-            (λ outs. after_entry (subject_with basis.now outs) self.old t) result }
+            (λ outs. entry_tests (row_subject request.now outs) (self.old.next - 1) self.old name t)
+            (λ outs. after_entry (row_subject request.now outs) self.old t) result }
         ensures some { CanCome (O.gives outputs.new) }
         ensures place { OnOk result (O.place outputs.new ≡ self.new.from) }
         ensures begun { O.begun outputs.new }
@@ -353,40 +350,38 @@ impl<'a> JudgeState<'a> {
     {
         let p = self.partition();
         let (key, value) = found;
-        self.order_entry(basis, name, key, value)?;
-        self.end_entry(basis, outputs, p)
+        self.order_entry(request, name, key, value)?;
+        self.end_entry(request, outputs, p)
     }
 
-    /// Tests an entry, given the emitted pair of its name.
+    /// Tests an entry, given its row.
     fn entry<O: Outputs>(
         &mut self,
-        basis: &Basis<'_>,
+        request: &Request,
         outputs: &mut O,
         name: Name,
-        found: Option<(&'a [u8], Value)>,
+        row: &FoundItem<'a>,
     ) -> Result<(), JudgeError>
         requires room { HasRoom self.old }
-        requires found { let t = named basis.now.triples name in MatchOption found (t ≡ None)
-            (λ p. t ≡ Some (record { key = p.0.now; value = p.1; name = name })) }
         requires begun { O.begun outputs.old }
         requires some { CanCome (O.gives outputs.old) }
         requires place { O.place outputs.old ≡ self.old.from }
-        ensures tested { let t = named basis.now.triples name in
+        ensures tested { let t = brought name row.now in
             Tested (O.gives outputs.old) (O.gives outputs.new) self.old self.new
-            (λ outs. entry_tests (subject_with basis.now outs) (self.old.next - 1) self.old name t)
-            (λ outs. after_entry (subject_with basis.now outs) self.old t) result }
+            (λ outs. entry_tests (row_subject request.now outs) (self.old.next - 1) self.old name t)
+            (λ outs. after_entry (row_subject request.now outs) self.old t) result }
         ensures some { CanCome (O.gives outputs.new) }
         ensures place { OnOk result (O.place outputs.new ≡ self.new.from) }
         ensures begun { O.begun outputs.new }
         ensures halts { Halts O.steady (O.failed outputs.old) (O.failed outputs.new) result }
     {
-        match found {
+        match row.found {
             None => Err(JudgeError::Fault(No::NoSuchPair {
                 partition: self.partition(),
                 group: self.group,
                 entry: self.entry,
             })),
-            Some(pair) => self.found_entry(basis, outputs, name, pair),
+            Some(pair) => self.found_entry(request, outputs, name, pair),
         }
     }
 
@@ -408,21 +403,21 @@ impl<'a> JudgeState<'a> {
         Ok(())
     }
 
-    /// Makes all tests of a row's item, in their order.
+    /// Makes all tests of a row's item in their order, by the pair that the row brings. The end isn't
+    /// tested: it is tested against the number of all pairs.
     pub fn step<O: Outputs>(
         &mut self,
-        basis: &Basis<'_>,
+        request: &Request,
         outputs: &mut O,
         row: &FoundItem<'a>,
     ) -> Result<(), JudgeError>
         requires room { HasRoom self.old }
-        requires found { IsFound basis.now.triples row.now }
         requires begun { (name : _) → row.now.item ≡ Entry name → O.begun outputs.old }
         requires some { CanCome (O.gives outputs.old) }
         requires place { O.place outputs.old ≡ self.old.from }
         ensures tested { Tested (O.gives outputs.old) (O.gives outputs.new) self.old self.new
-            (λ outs. tests (subject_with basis.now outs) self.old row.now.item)
-            (λ outs. after (subject_with basis.now outs) self.old row.now.item) result }
+            (λ outs. row_tests (row_subject request.now outs) self.old row.now)
+            (λ outs. row_after (row_subject request.now outs) self.old row.now) result }
         ensures some { CanCome (O.gives outputs.new) }
         ensures place { OnOk result (O.place outputs.new ≡ self.new.from) }
         ensures begun { O.begun outputs.old → O.begun outputs.new }
@@ -435,8 +430,7 @@ impl<'a> JudgeState<'a> {
                 self.begin_group(u64::from(entries));
                 Ok(())
             }
-            Item::Entry(name) => self.entry(basis, outputs, name, row.found),
-            Item::End => Ok(test_named(basis.emitted(), self.named)?),
+            Item::Entry(name) => self.entry(request, outputs, name, row),
             _ => Ok(()),
         }
     }

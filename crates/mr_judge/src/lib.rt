@@ -13,9 +13,10 @@ mod parts;
 mod readers;
 
 pub use border::{Border, FoundItem, Sought, read_block};
-pub use entry_tests::{Basis, test_named};
+pub use entry_tests::test_named;
 pub use from::{check_from, judge_readers};
-pub use judge::{check, check_metered, judge_on_one_thread, plan_of, walk};
+pub use judge::{check_metered, judge_plainly, plan_of, walk};
 pub use judge_state::JudgeState;
 pub use outputs::{MemoryOutputs, OutputError, Outputs};
 pub use parts::Block;
+pub use readers::ByRef;

@@ -5,11 +5,11 @@ ghost use Rattle.mr_jobs.specs.JobSpec.{has_lines};
 ghost use Rattle.mr_reduce.specs.Text.{text_of};
 ghost use Rattle.mr_judge.specs.Outputs.{CanCome, TextTold, Halts};
 
-use crate::entry_tests::{Basis, test_text};
+use crate::entry_tests::test_text;
 use crate::outputs::Outputs;
 use mr_bytes::{Value, ValueColumn};
-use mr_jobs::Job;
-use mr_reduce::group_text;
+use mr_jobs::{Job, Request};
+use mr_reduce::{append_text, group_text};
 use mr_verdict::JudgeError;
 use std::alloc::AllocError;
 
@@ -46,10 +46,23 @@ fn test_lines<O: Outputs>(
     Ok(())
 }
 
+/// The text of a group, in place of what is in `out`.
+fn text_into(
+    job: &Job,
+    key: &[u8],
+    values: &ValueColumn,
+    out: &mut Vec<u8>,
+) -> Result<(), AllocError>
+    ensures { OnOk result (out.new.items ≡ text_of job.now key.now values.now) }
+{
+    out.clear();
+    append_text(job, key, values, out)
+}
+
 /// Whether a group's text comes next in the open output. The buffer `line` is for one line.
 pub(crate) fn test_group<O: Outputs>(
     outputs: &mut O,
-    basis: &Basis<'_>,
+    request: &Request,
     p: u64,
     key: &[u8],
     values: &ValueColumn,
@@ -58,17 +71,17 @@ pub(crate) fn test_group<O: Outputs>(
     requires begun { O.begun outputs.old }
     requires some { CanCome (O.gives outputs.old) }
     ensures told { TextTold (O.gives outputs.old) (O.gives outputs.new) p
-        (O.place outputs.old) (text_of basis.now.request.job key.now values.now) result }
+        (O.place outputs.old) (text_of request.now.job key.now values.now) result }
     ensures some { CanCome (O.gives outputs.new) }
     ensures place { OnOk result (O.place outputs.new
-        ≡ O.place outputs.old + length (text_of basis.now.request.job key.now values.now)) }
+        ≡ O.place outputs.old + length (text_of request.now.job key.now values.now)) }
     ensures begun { O.begun outputs.new }
     ensures halts { Halts O.steady (O.failed outputs.old) (O.failed outputs.new) result }
 {
-    let job = basis.job();
+    let job = request.job();
     if job.has_lines() {
         return test_lines(outputs, p, job, key, values, line);
     }
-    basis.text(key, values, line)?;
+    text_into(job, key, values, line)?;
     test_text(outputs, p, line.as_slice())
 }

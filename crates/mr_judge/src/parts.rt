@@ -10,12 +10,13 @@ ghost use Rattle.mr_judge.specs.Outputs.{CanCome as CanComeAhead, Fits, Through,
 ghost use Rattle.mr_judge.specs.Outputs.{HaltsItems, HaltsOutputs, begins};
 
 use crate::border::{BLOCK, FoundItem, Sought, fetch_all, read_block, seek_all, touch};
-use crate::entry_tests::Basis;
+use crate::entry_tests::test_named;
 use crate::judge_state::JudgeState;
 use crate::outputs::Outputs;
 use mr_bytes::{Phase, Progress, Throttle};
 use mr_certform::Item;
-use mr_index::Meter;
+use mr_index::{EmissionIndex, Meter};
+use mr_jobs::Request;
 use mr_verdict::{ItemSource, JudgeError, No};
 use std::alloc::{AllocError, Global};
 
@@ -23,28 +24,31 @@ use std::alloc::{AllocError, Global};
 #[inline(never)]
 fn judge_rows<'a, O: Outputs>(
     judging: &mut JudgeState<'a>,
-    basis: &Basis<'a>,
+    request: &Request,
+    index: &EmissionIndex,
     outputs: &mut O,
     rows: &[FoundItem<'a>],
 ) -> Result<bool, JudgeError>
     requires room { Room judging.old (length rows.now) (2 ^ 64 - 2) }
-    requires found { AllByRecursion (IsFound basis.now.triples) rows.now }
+    requires found { AllByRecursion (IsFound index.now) rows.now }
     requires fits { Fits (O.gives outputs.old) judging.old }
     requires some { CanComeAhead (O.gives outputs.old) }
     requires place { O.place outputs.old ≡ judging.old.from }
     requires begun { (begins (items_in rows.now) ≡ true) ⊎ O.begun outputs.old }
     ensures judged { RowsJudged (O.gives outputs.old)
-        (O.gives outputs.new) basis.now judging.old judging.new (items_in rows.now) result }
+        (O.gives outputs.new) (record { request = request.now; triples = index.now })
+        judging.old judging.new (items_in rows.now) result }
     ensures some { CanComeAhead (O.gives outputs.new) }
     ensures place { OnOk result (O.place outputs.new ≡ judging.new.from) }
     ensures begun { IfOk result (λ b. b ≡ false → 1 ≤ length rows.now → O.begun outputs.new) }
     ensures halts { Halts O.steady (O.failed outputs.old) (O.failed outputs.new) result }
 {
     for row in rows {
-        judging.step(basis, outputs, row)?;
         if let Item::End = row.item {
+            test_named(index.total(), judging.named())?;
             return Ok(true);
         }
+        judging.step(request, outputs, row)?;
     }
     Ok(false)
 }
@@ -73,16 +77,16 @@ impl<'a> Block<'a> {
     }
 
     /// Looks up the names among the items, and sets their rows.
-    pub fn look_up(&mut self, basis: &Basis<'a>, meter: &mut Meter) -> Result<(), AllocError>
+    pub fn look_up(&mut self, index: &'a EmissionIndex, meter: &mut Meter) -> Result<(), AllocError>
         requires { meter.old.lookups + entries_in self.old.items.items < 2 ^ 64 }
         ensures items { OnOk result (items_in self.new.rows.items ≡ self.old.items.items) }
-        ensures found { OnOk result (AllByRecursion (IsFound basis.now.triples) self.new.rows.items) }
+        ensures found { OnOk result (AllByRecursion (IsFound index.entry.now) self.new.rows.items) }
         ensures lookups { (meter.old.lookups ≤ meter.new.lookups)
             × (meter.new.lookups ≤ meter.old.lookups + entries_in self.old.items.items) }
         ensures all { OnOk result (meter.new.lookups ≡ meter.old.lookups + entries_in self.old.items.items) }
         ensures mapped { meter.new.mapped ≡ meter.old.mapped }
     {
-        seek_all(basis, &self.items, &mut self.sought, meter)?;
+        seek_all(index, &self.items, &mut self.sought, meter)?;
         fetch_all(&self.sought, &mut self.rows)?;
         touch(&self.rows, &mut self.touched)?;
         Ok(())
@@ -112,7 +116,8 @@ impl Work {
 
 /// Judges all partitions and the items' end, a block at a time. Returns the number of entries.
 fn judge_blocks<'a, I: ItemSource, O: Outputs>(
-    basis: &Basis<'a>,
+    request: &Request,
+    index: &'a EmissionIndex,
     outputs: &mut O,
     walker: &mut I,
     work: &mut Work,
@@ -131,18 +136,19 @@ fn judge_blocks<'a, I: ItemSource, O: Outputs>(
     requires place { O.place outputs.old ≡ 0 }
     ensures judged { Through (O.gives outputs.old) start
         (λ outs. Judges (I.gives walker.old)
-        (subject_with basis.now outs) work.old.meter.lookups work.new.meter.lookups result) }
+        (subject_with (record { request = request.now; triples = index.now }) outs)
+        work.old.meter.lookups work.new.meter.lookups result) }
     ensures all { IfOk result (λ n. work.new.meter.lookups ≡ work.old.meter.lookups + n) }
     ensures mapped { work.new.meter.mapped ≡ work.old.meter.mapped }
     ensures stops { HaltsItems I.steady (I.failed walker.old) (I.failed walker.new) result }
     ensures halts { HaltsOutputs O.steady (O.failed outputs.old) (O.failed outputs.new) result }
 {
-    let mut pace = Throttle::new(Phase::Judging, basis.emitted());
+    let mut pace = Throttle::new(Phase::Judging, index.total());
     loop {
         pace.reach(judging.named(), watch);
         let stopped = read_block(walker, &mut block.items)?;
-        block.look_up(basis, &mut work.meter)?;
-        if judge_rows(judging, basis, outputs, &block.rows)? {
+        block.look_up(index, &mut work.meter)?;
+        if judge_rows(judging, request, index, outputs, &block.rows)? {
             return Ok(judging.named());
         }
         if let Some(at) = stopped {
@@ -154,7 +160,8 @@ fn judge_blocks<'a, I: ItemSource, O: Outputs>(
 /// Judges all partitions and the items' end. Returns the number of entries. It looks up each entry
 /// at most once, a block ahead of the tests, and reports to `watch` how many entries are judged.
 pub(crate) fn check_parts<I: ItemSource, O: Outputs>(
-    basis: &Basis<'_>,
+    request: &Request,
+    index: &EmissionIndex,
     outputs: &mut O,
     walker: &mut I,
     work: &mut Work,
@@ -170,7 +177,8 @@ pub(crate) fn check_parts<I: ItemSource, O: Outputs>(
     requires place { O.place outputs.old ≡ 0 }
     ensures judged { Through (O.gives outputs.old) start
         (λ outs. Judges (I.gives walker.old)
-        (subject_with basis.now outs) work.old.meter.lookups work.new.meter.lookups result) }
+        (subject_with (record { request = request.now; triples = index.now }) outs)
+        work.old.meter.lookups work.new.meter.lookups result) }
     ensures all { IfOk result (λ n. work.new.meter.lookups ≡ work.old.meter.lookups + n) }
     ensures mapped { work.new.meter.mapped ≡ work.old.meter.mapped }
     ensures stops { HaltsItems I.steady (I.failed walker.old) (I.failed walker.new) result }
@@ -179,7 +187,8 @@ pub(crate) fn check_parts<I: ItemSource, O: Outputs>(
     let mut judging = JudgeState::new(work.alloc);
     let mut block = Block::new(work.alloc)?;
     judge_blocks(
-        basis,
+        request,
+        index,
         outputs,
         walker,
         work,

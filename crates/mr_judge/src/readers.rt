@@ -178,8 +178,9 @@ impl<'a, R: CountedRead> Outputs for ReaderOutputs<'a, R> {
     }
 }
 
+/// A reader that is lent.
 #[derive(Drop)]
-pub(crate) struct ByRef<'a, R> {
+pub struct ByRef<'a, R> {
     pub reader: &'a mut R,
 }
 

@@ -3,8 +3,9 @@ ghost use Rattle.std.specs.Prelude.{◌≤◌, ◌^◌};
 ghost use Rattle.mr_input.specs.Files.{split_total};
 
 use crate::given::{CERTIFICATE, Given, OUTPUT, few_words, list_of};
-use mr_check::{No, Source, Yes, check, check_from, is_same_fault};
-use mr_store::MemoryReader;
+use mr_bytes::Unwatched;
+use mr_check::{Computation, No, Source, Yes, accept_read, check, check_from, is_same_fault};
+use mr_store::{CountedRead, MemoryReader};
 use std::alloc::Global;
 use std::test::Fail;
 
@@ -70,13 +71,38 @@ fn told(alloc: Global, given: &Given, texts: (&[u8], &[u8])) -> Result<Result<Ye
     Ok(check(alloc, &given.request, &given.input, &outputs, texts.1))
 }
 
-/// Whether the answer on bytes at hand is a yes, where readers that give 1, 7 and all bytes a call get it too.
+/// Whether the fast judge says yes, of a certificate that a reader gives, so many bytes a call.
+fn is_accepted(
+    alloc: Global,
+    given: &Given,
+    texts: (&[u8], &[u8]),
+    most: usize,
+) -> Result<bool, Fail>
+    requires { split_total given.now.request.split given.now.input ≤ 2 ^ 20 }
+{
+    let outputs = list_of(alloc, &[texts.0])?;
+    let mut certificate = reader(alloc, texts.1, most, None)?;
+    // What is left to read are bytes.
+    let _known = certificate.failures();
+    let computation = Computation {
+        request: &given.request,
+        input: &given.input,
+    };
+    let yes = accept_read(alloc, &computation, &outputs, &mut certificate, &Unwatched);
+    Ok(yes.is_some())
+}
+
+/// Whether the answer on bytes at hand is a yes, where readers that give 1, 7 and all bytes a call get it too, and the
+/// fast judge says just this yes.
 fn is_good(alloc: Global, given: &Given, texts: (&[u8], &[u8])) -> Result<Option<bool>, Fail>
     requires { split_total given.now.request.split given.now.input ≤ 2 ^ 20 }
 {
     let want = told(alloc, given, texts)?;
     for most in [1, 7, 65_536] {
         if !is_told(alloc, given, texts, most, &want)? {
+            return Ok(None);
+        }
+        if is_accepted(alloc, given, texts, most)? != want.is_ok() {
             return Ok(None);
         }
     }

@@ -38,7 +38,7 @@ loop-item-preserved c =
     let inv = c.loop-item.invariant in
     record {
       items = sought_more rows c.seek-one.result c.keep.new.list.items (get_or is i Magic) (drop i is) (drop (i + 1) is) is kept row.item d inv.items;
-      placed = subst (AllByRecursion (IsPlaced c.args.basis.now.triples)) (sym kept) (all_more (IsPlaced c.args.basis.now.triples) rows c.seek-one.result inv.placed row.placed);
+      placed = subst (AllByRecursion (IsPlaced c.args.index.now)) (sym kept) (all_more (IsPlaced c.args.index.now) rows c.seek-one.result inv.placed row.placed);
       lookups = omega (arith, row.lookups, inv.lookups, ap entries_in d, more);
       mapped = row.mapped ∙ inv.mapped;
     }

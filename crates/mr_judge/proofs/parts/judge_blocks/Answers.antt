@@ -4,7 +4,7 @@ use Rattle.mr_certform.specs.declared.grammar_state.Item.{Item}
 use Rattle.mr_verdict.specs.declared.items.JudgeError.TheVariants.{Fault}
 use Rattle.mr_verdict.specs.declared.answers.No.TheVariants.{OutOfMemory}
 use Rattle.mr_verdict.specs.Verdict.{Reached, start}
-use Rattle.mr_verdict.specs.Steps.{subject_with}
+use Rattle.mr_verdict.specs.Steps.{Ground, subject_with}
 use Rattle.mr_judge.specs.Blocks.{items_in, Read, Judges}
 use Rattle.mr_judge.specs.Outputs.{Through, RowsJudged, begins}
 use Rattle.mr_judge.proofs.BlockLemmas.{items_long}
@@ -19,7 +19,7 @@ none_is (Some n) h = absurd (h n refl)
 
 pub returns-in_err-stopped-clause-judged : goal.returns-in_err-stopped-clause-judged
 returns-in_err-stopped-clause-judged g c =
-    let b = c.args.basis.now in
+    let b : Ground = record { request = c.args.request.now; triples = c.args.index.now } in
     let gives = g.I.ItemSource.gives in
     let outs = g.O.Outputs.gives in
     let old = gives c.args.walker.now in
@@ -38,7 +38,7 @@ returns-in_err-stopped-clause-judged g c =
 
 pub returns-in_err-look_up-clause-judged : goal.returns-in_err-look_up-clause-judged
 returns-in_err-look_up-clause-judged g c =
-    let b = c.args.basis.now in
+    let b : Ground = record { request = c.args.request.now; triples = c.args.index.now } in
     let gives = g.I.ItemSource.gives in
     let outs = g.O.Outputs.gives in
     let old = gives c.args.walker.now in
@@ -59,7 +59,7 @@ returns-in_err-look_up-clause-judged g c =
 
 pub returns-in_err-judge_rows-clause-judged : goal.returns-in_err-judge_rows-clause-judged
 returns-in_err-judge_rows-clause-judged g c =
-    let b = c.args.basis.now in
+    let b : Ground = record { request = c.args.request.now; triples = c.args.index.now } in
     let gives = g.I.ItemSource.gives in
     let outs = g.O.Outputs.gives in
     let old = gives c.args.walker.now in
@@ -86,7 +86,7 @@ returns-in_err-judge_rows-clause-judged g c =
 
 pub returns-then-branch-clause-judged : goal.returns-then-branch-clause-judged
 returns-then-branch-clause-judged g c =
-    let b = c.args.basis.now in
+    let b : Ground = record { request = c.args.request.now; triples = c.args.index.now } in
     let gives = g.I.ItemSource.gives in
     let outs = g.O.Outputs.gives in
     let old = gives c.args.walker.now in
@@ -114,7 +114,7 @@ returns-then-branch-clause-judged g c =
 
 pub returns-then-branch-clause-all : goal.returns-then-branch-clause-all
 returns-then-branch-clause-all g c =
-    let b = c.args.basis.now in
+    let b : Ground = record { request = c.args.request.now; triples = c.args.index.now } in
     let gives = g.I.ItemSource.gives in
     let outs = g.O.Outputs.gives in
     let old = gives c.args.walker.now in
@@ -142,7 +142,7 @@ returns-then-branch-clause-all g c =
 
 pub returns-in-Some-clause-judged : goal.returns-in-Some-clause-judged
 returns-in-Some-clause-judged g c =
-    let b = c.args.basis.now in
+    let b : Ground = record { request = c.args.request.now; triples = c.args.index.now } in
     let gives = g.I.ItemSource.gives in
     let outs = g.O.Outputs.gives in
     let old = gives c.args.walker.now in
@@ -171,7 +171,7 @@ returns-in-Some-clause-judged g c =
 
 pub judge_rows-requires-clause-fits : goal.judge_rows-requires-clause-fits
 judge_rows-requires-clause-fits g c =
-    let b = c.args.basis.now in
+    let b : Ground = record { request = c.args.request.now; triples = c.args.index.now } in
     let gives = g.I.ItemSource.gives in
     let outs = g.O.Outputs.gives in
     let old = gives c.args.walker.now in
@@ -188,7 +188,7 @@ judge_rows-requires-clause-fits g c =
 
 pub judge_rows-requires-clause-begun : goal.judge_rows-requires-clause-begun
 judge_rows-requires-clause-begun g c =
-    let b = c.args.basis.now in
+    let b : Ground = record { request = c.args.request.now; triples = c.args.index.now } in
     let gives = g.I.ItemSource.gives in
     let outs = g.O.Outputs.gives in
     let old = gives c.args.walker.now in
@@ -212,7 +212,7 @@ judge_rows-requires-clause-begun g c =
 
 pub loop-stopped-smaller : goal.loop-stopped-smaller
 loop-stopped-smaller g c =
-    let b = c.args.basis.now in
+    let b : Ground = record { request = c.args.request.now; triples = c.args.index.now } in
     let gives = g.I.ItemSource.gives in
     let outs = g.O.Outputs.gives in
     let old = gives c.args.walker.now in
@@ -241,7 +241,7 @@ loop-stopped-smaller g c =
 
 pub loop-stopped-preserved : goal.loop-stopped-preserved
 loop-stopped-preserved g c =
-    let b = c.args.basis.now in
+    let b : Ground = record { request = c.args.request.now; triples = c.args.index.now } in
     let gives = g.I.ItemSource.gives in
     let outs = g.O.Outputs.gives in
     let old = gives c.args.walker.now in
@@ -293,7 +293,7 @@ loop-stopped-init g c =
     let n = c.args.work.now.meter.lookups in
     let named : 0 ≡ c.args.judging.now.named = sym (ap (λ (w : Reached). w.named) c.requires.fresh) in
     record {
-      going = going_first (outs c.args.outputs.now) (gives c.args.walker.now) c.args.basis.now c.args.judging.now n c.requires.fresh;
+      going = going_first (outs c.args.outputs.now) (gives c.args.walker.now) (record { request = c.args.request.now; triples = c.args.index.now }) c.args.judging.now n c.requires.fresh;
       given = c.requires.some;
       some = c.requires.outputs;
       place = c.requires.place ∙ sym (ap (λ (w : Reached). w.from) c.requires.fresh);

@@ -7,7 +7,7 @@ use Rattle.mr_judge.proofs.parts.judge_blocks.Given as goal
 
 abbrev pub invariant-loop-stopped : goal.invariant-loop-stopped
 invariant-loop-stopped g l = record {
-  going : Going (g.O.Outputs.gives l.initial.outputs) (g.O.Outputs.gives l.outputs) (g.I.ItemSource.gives l.initial.walker) (g.I.ItemSource.gives l.walker) l.basis l.judging l.initial.work.meter.lookups l.work.meter.lookups;
+  going : Going (g.O.Outputs.gives l.initial.outputs) (g.O.Outputs.gives l.outputs) (g.I.ItemSource.gives l.initial.walker) (g.I.ItemSource.gives l.walker) (record { request = l.request; triples = l.index }) l.judging l.initial.work.meter.lookups l.work.meter.lookups;
   given : CanCome (g.I.ItemSource.gives l.walker);
   some : CanComeAhead (g.O.Outputs.gives l.outputs);
   place : g.O.Outputs.place l.outputs ≡ l.judging.from;

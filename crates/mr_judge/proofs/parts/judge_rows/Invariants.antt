@@ -9,8 +9,8 @@ use Rattle.mr_judge.proofs.parts.judge_rows.Given as goal
 abbrev pub invariant-loop-row : goal.invariant-loop-row
 invariant-loop-row g l = record {
   going : Onward (g.O.Outputs.gives l.initial.outputs) (g.O.Outputs.gives l.outputs) l.initial.judging l.judging
-      (λ outs. Stands (subject_with l.basis outs) l.initial.judging l.judging l.row-index (items_in (drop l.row-index l.rows)) (items_in l.rows));
-  found : AllByRecursion (IsFound l.basis.triples) (drop l.row-index l.rows);
+      (λ outs. Stands (subject_with (record { request = l.request; triples = l.index }) outs) l.initial.judging l.judging l.row-index (items_in (drop l.row-index l.rows)) (items_in l.rows));
+  found : AllByRecursion (IsFound l.index) (drop l.row-index l.rows);
   some : CanComeAhead (g.O.Outputs.gives l.outputs);
   place : g.O.Outputs.place l.outputs ≡ l.judging.from;
   begun : ((l.row-index ≡ 0) × (begins (items_in l.rows) ≡ true)) ⊎ g.O.Outputs.begun l.outputs;

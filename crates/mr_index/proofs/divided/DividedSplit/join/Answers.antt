@@ -2,10 +2,11 @@ use Rattle.std.proofs.Common.{◌≡◌, List, [], ℕ, arith, ap, sym, ◌∙�
 use Rattle.std.proofs.lemmas.List.{nil_from_length}
 use Rattle.std.specs.Vec.Iter.{into_iter_items}
 use Rattle.mr_jobs.specs.Emissions.{Emission}
-use Rattle.mr_splits.specs.Cut.{records_of}
+use Rattle.mr_splits.specs.Cut.{Cut, records_of}
 use Rattle.mr_index.specs.Pairs.{pairs_seen, EndsRise}
 use Rattle.mr_index.specs.Building.{numbered, appended}
-use Rattle.mr_index.specs.Pieces.{Division, PieceView, records_divided}
+use Rattle.mr_index.specs.Pieces.{Division, records_divided}
+use Rattle.mr_index.specs.Windows.{PieceView}
 use Rattle.mr_index.proofs.JoinLemmas.{in-split}
 use Rattle.mr_index.proofs.PieceLemmas.{Joining, joining-first, joining-next, joining-fits, joining-few, joining-all, divided-fits}
 use Rattle.mr_index.proofs.divided.DividedSplit.join.Goals as goal
@@ -30,7 +31,7 @@ append-requires-clause-fits c =
     let d : Division = c.args.self.now in
     let tables = c.loop-piece.tables in
     let more = c.tables.result.now in
-    let fits = divided-fits d c.input.result.now (c.input.ensures ∙ ap (λ (e : Division). e.cut.files) c.self.view_is)
+    let fits = divided-fits d c.input.result.now (c.input.ensures ∙ ap (λ (w : Cut). w.files) c.plan.ensures ∙ ap (λ (e : Division). e.cut.files) c.self.view_is)
     (omega (arith, c.files-files.ensures.count, c.files-files.ensures.few)) c.files-files.ensures.small in
     joining-fits d tables.ends.items more.ends.items (pairs_seen tables.pairs) (pairs_seen more.pairs) (into_iter_items c.loop-piece.rest)
     (into_iter_items c.next-in-loop-piece.new.self) c.in-Some-next.piece c.loop-piece.invariant.joining c.in-Some-next.ensures.items c.tables.ensures.shows fits
@@ -55,7 +56,7 @@ pub of_tables-requires-clause-few : goal.of_tables-requires-clause-few
 of_tables-requires-clause-few c =
     let d : Division = c.args.self.now in
     let tables = c.loop-piece.tables in
-    let fits = divided-fits d c.input.result.now (c.input.ensures ∙ ap (λ (e : Division). e.cut.files) c.self.view_is)
+    let fits = divided-fits d c.input.result.now (c.input.ensures ∙ ap (λ (w : Cut). w.files) c.plan.ensures ∙ ap (λ (e : Division). e.cut.files) c.self.view_is)
     (omega (arith, c.files-files.ensures.count, c.files-files.ensures.few)) c.files-files.ensures.small in
     joining-few d tables.ends.items (pairs_seen tables.pairs) (into_iter_items c.loop-piece.rest) c.loop-piece.invariant.joining fits
 

@@ -1,0 +1,1 @@
+-- From claims that are right to the verdict.

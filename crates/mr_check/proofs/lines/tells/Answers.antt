@@ -1,0 +1,7 @@
+use Rattle.std.proofs.Common.{◌-◌, arith}
+use Rattle.mr_check.proofs.LineKeyLemmas.{near_tells}
+use Rattle.mr_check.proofs.lines.tells.Goals as goal
+
+pub returns-then-tells_near : goal.returns-then-tells_near
+returns-then-tells_near c h =
+    near_tells c.args.rest.now c.args.keys.now c.args.start (c.args.end - c.args.start) (omega arith) (omega arith) (c.tells_near.ensures c.if-tells_near.true)
