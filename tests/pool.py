@@ -7,12 +7,13 @@ import random
 import resource
 import subprocess
 import tempfile
+from collections import Counter
 from concurrent.futures import ThreadPoolExecutor
 
 from failing import shim
 from judging import section_borders
 from libraries import built
-from plain import Request, in_version_2, produced
+from plain import Request, in_version_2, named_records, produced
 from scripts import Allowed, drawn, misstep, written
 
 TOP = os.path.dirname(os.path.dirname(os.path.abspath(__file__)))
@@ -219,11 +220,11 @@ def a_backup_whose_output_is_lost(harness):
 
 
 def threads_that_judge(harness):
-    """The first piece of either phase is held until another of it has left: so more than one thread maps, and judges."""
+    """The first section is held until another has left, and so the first window: so more than one thread judges entries, and maps."""
     request, files = Request("words", parts=2, split=2), [b"a\nb\n"]
     for threads in (2, 4, 64):
         answer = ran(request, files, workers=threads, mode="judge")
-        harness.check(f"{threads} threads share the splits and the partitions", answer.lines == ["yes 2 0", "gate passed, passed"], repr(answer))
+        harness.check(f"{threads} threads share the partitions and the windows", answer.lines == ["yes 2 0", "gate passed, passed"], repr(answer))
     answer = ran(request, files, workers=1, mode="judge")
     harness.check("one thread can't", answer.lines == ["yes 2 0", "gate failed, failed"], repr(answer))
     for threads in (1, 2, 64):
@@ -238,7 +239,7 @@ def tickets(harness):
 
 def who_looks_on(harness):
     request, files = Request("words", parts=2, split=2), [b"a\nb\nc\nd\n"]
-    whole = ["Mapping 4 times, 4 of 4", "Reducing 2 times, 2 of 2", "Judging 7 times, 3 of 8"]
+    whole = ["Mapping 4 times, 4 of 4", "Reducing 2 times, 2 of 2", "Judging 7 times, 7 of 8"]
     answer = ran(request, files, workers=1, mode="watch")
     harness.check("who looks on is told each task that is done, and the judgement", answer.told == [*whole, "0 lost"], repr(answer))
     answer = ran(request, files, b"lose 0 after 4\n", 1, mode="watch")
@@ -251,8 +252,19 @@ def who_looks_on(harness):
     harness.check("what is mapped again is never told as more than all", int(times) >= 4 and most == "4 of 4", repr(answer))
 
 
+def window_count(request, files):
+    """How many windows the judge cuts an input into. Each has the same number of records of one split, but for the split's last:
+    the greatest power of two of which, at their average length, 384 KiB are not exceeded."""
+    splits = Counter(split for (split, _), *_ in named_records(files, request.split))
+    size, records, shift = sum(map(len, files)), sum(splits.values()), 0
+    while shift < 20 and size << (shift + 1) <= 393_216 * records:
+        shift += 1
+    return sum(-(-count >> shift) for count in splits.values())
+
+
 def sections_fit(harness):
-    """The judge is told each section of a partition once, and no partition anew: the borders that it guesses are right."""
+    """The judge reports each section of the partition once, and then each window of the input: so the sections fit together, and the
+    borders that it guesses are right. Else it would judge anew, and report no window."""
     rnd = random.Random("sections")
     words = [b"%s%d" % (rnd.choice([b"a", b"the", b"zebra"]), n) for n in range(1500)]
     lines = {"words": lambda: b" ".join(rnd.choices(words, k=9)), "grep": lambda: b"a\t" + rnd.choice(words), "url": lambda: b'1.2.3.4 "GET /%s HTTP/1.0" 200' % rnd.choice(words)}
@@ -260,12 +272,13 @@ def sections_fit(harness):
         request = Request(job, split=100_000, literal=b"a" if job == "grep" else b"", fold=job == "grep")
         data = b"".join(line() + b"\n" for _ in range(26_000 if job == "words" else 180_000))
         _, certificate, _ = produced(request, [data])
-        sections = 1 + len(section_borders(certificate.partitions[0]))
-        splits = -(-len(data) // request.split)
-        want = f"Judging {1 + splits + sections} times, {max(splits, 2 * sections) - 1} of {2 * max(splits, sections)}"
+        windows = window_count(request, [data])
         for workers in (1, 3):
+            sections = 1 + len(section_borders(certificate.partitions[0], items=max(65_536, len(data) // 32 // workers)))
+            want = f"Judging {1 + sections + windows} times, {max(sections, 2 * windows) - 1} of {2 * max(sections, windows)}"
             answer = ran(request, [data], workers=workers, mode="watch")
-            harness.check(f"{sections} sections under {job} fit together, by {workers} workers", sections > 2 and answer.told[2:3] == [want], f"{answer!r} wanted {want}")
+            harness.check(f"{sections} sections under {job} fit together, by {workers} workers", sections > 2 or workers < 3, f"{sections} sections")
+            harness.check(f"{sections} sections under {job} are told, by {workers} workers", answer.told[2:3] == [want], f"{answer!r} wanted {want}")
 
 
 def many_tasks(harness):
@@ -369,6 +382,20 @@ def random_runs(harness, first=20260, runs=400):
         harness.check(f"{what} comes in some random run", seen.get(what, 0) > 0, repr(seen))
 
 
+def good_results(harness, first=70_000, runs=2800):
+    """The fast judge accepts each good result by itself, without the plain one: those of random jobs and scripts, in both versions."""
+    def accepted(start):
+        request, files, lines, workers, attempts = random_case(start, TOLD_JOBS)
+        return start, ran(request, files, written(lines), workers, attempts, 1 + start % 2, mode="accept")
+
+    good = 0
+    with ThreadPoolExecutor(4) as pool:
+        for start, answer in pool.map(accepted, range(first, first + runs)):
+            good += answer.lines == ["accepted true"]
+            harness.check(f"the result {start} is accepted, if it is good", answer.lines in (["accepted true"], ["nothing to judge"]), repr(answer))
+    harness.check("there are 2,000 good results", good >= 2000, str(good))
+
+
 def each_allocation(harness):
     """Each allocation fails in turn, of one worker and of several, with regions in memory and in files: the answer is that, or
     what it is without."""
@@ -415,6 +442,7 @@ ALL = {
     "many tasks": many_tasks,
     "many pairs in a split": many_pairs,
     "random runs": random_runs,
+    "good results accepted": good_results,
     "each allocation of a run": each_allocation,
     "runs without threads": no_threads,
 }

@@ -461,8 +461,8 @@ def failing_calls(harness):
             harness.check(f"run, {kind} {number} fails", refused or unprinted or (got == whole and (kind == "malloc" or not marked)), repr(got))
         harness.check(f"a run comes to some {kind}", number > 1)
         # asking for a word behind the last one needs no memory, a thread that can't be made is done without, and so are the
-        # bits for the names of each partition's regions
-        harness.check("a run needs nearly all memory", spared <= 5, str(spared))
+        # bits for the names of each partition's regions; where the fast judge is refused memory, the plain one judges
+        harness.check("a run needs nearly all memory", spared <= 64, str(spared))
     number, marked, several = 0, True, [*words, "--workers", "4", "a"]
     while marked:
         number += 1

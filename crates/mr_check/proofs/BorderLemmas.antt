@@ -1,6 +1,5 @@
 -- What bears on the tests behind a border between two groups.
-use Rattle.std.proofs.Common.{◌≡◌, ℕ, zero, suc, ◌+◌, ◌-◌, true, Option, Some, None, List, [], ◌∷◌, ◌++◌, drop, refl, ap, sym, ◌∙◌}
-use Rattle.std.proofs.lemmas.Bool.{false≢true}
+use Rattle.std.proofs.Common.{◌≡◌, ℕ, zero, suc, ◌+◌, ◌-◌, Option, Some, None, List, [], ◌∷◌, ◌++◌, refl, ap, sym, ◌∙◌}
 use Rattle.mr_bytes.specs.declared.Name.{Name}
 use Rattle.mr_bytes.specs.declared.Value.{Value}
 use Rattle.mr_bytes.specs.Pairs.{Triple}
@@ -9,26 +8,21 @@ use Rattle.mr_certform.specs.declared.grammar_state.Item.TheVariants.{Groups, En
 use Rattle.mr_certform.specs.Places.{first_name}
 use Rattle.mr_sequential.specs.Good.{named}
 use Rattle.mr_verdict.specs.Verdict.{Reached, Subject, order_tests, with_entry, group_tests, behind_group, entry_tests, after_entry, tests}
-use Rattle.mr_verdict.specs.VerdictLaws.{told, piece}
+use Rattle.mr_verdict.specs.VerdictLaws.{told}
 use Rattle.mr_judge.specs.Borders.{between}
-use Rattle.mr_check.specs.Fronts.{is_own}
-use Rattle.mr_check.specs.Sections.{GroupBegins}
+use Rattle.mr_check.specs.Sections.{BeginsGroup}
+use Rattle.mr_check.specs.Walk.{before_end}
 
--- all belong to the partition that is open
-abbrev pub AllOwn : List Item → Type 0
-AllOwn [] = Unit {0}
-AllOwn (i ∷ is) = (is_own i ≡ true) × AllOwn is
+-- none of them is the end
+abbrev NoneEnds : List Item → Type 0
+NoneEnds [] = Unit {0}
+NoneEnds (End ∷ is) = ⊥
+NoneEnds (i ∷ is) = NoneEnds is
 
-pub piece_own : (is : List Item) → AllOwn (piece is)
-piece_own [] = tt
-piece_own (Groups n ∷ is) = tt
-piece_own (End ∷ is) = tt
-piece_own (i ∷ is) = (refl, piece_own is)
-
-pub drop_own : (n : ℕ) (is : List Item) → AllOwn is → AllOwn (drop n is)
-drop_own zero is own = own
-drop_own (suc n) [] own = tt
-drop_own (suc n) (i ∷ is) own = drop_own n is own.1
+none_ends : (is : List Item) → NoneEnds (before_end is)
+none_ends [] = tt
+none_ends (End ∷ is) = tt
+none_ends (i ∷ is) = none_ends is
 
 -- ---- how many entries there were bears on none of their tests
 
@@ -53,13 +47,14 @@ named_next : (s : Subject) (st : Reached) (m : ℕ) (name : Name) (found : Optio
 named_next s st m name None is rec = ap (λ w. entry_tests s (st.next - 1) st name None ++ w) (rec st m)
 named_next s st m name (Some t) is rec = named_entry s st m (st.next - 1) name t st.entry (st.entries - 1) is rec
 
-pub told_named : (s : Subject) (st : Reached) (m : ℕ) (is : List Item) → AllOwn is → told s (record st { named = m }) is ≡ told s st is
-told_named s st m [] own = refl
-told_named s st m (Groups n ∷ is) own = absurd (false≢true own.0)
-told_named s st m (End ∷ is) own = absurd (false≢true own.0)
-told_named s st m (Entries n ∷ is) own = told_named s (record st { entries = n; entry = 0 }) m is own.1
-told_named s st m (Entry name ∷ is) own = named_next s st m name (named s.triples name) is (λ w k. told_named s w k is own.1)
-told_named s st m (i ∷ is) own = told_named s st m is own.1
+pub told_named : (s : Subject) (st : Reached) (m : ℕ) (is : List Item) → NoneEnds is → told s (record st { named = m }) is ≡ told s st is
+told_named s st m [] none = refl
+told_named s st m (End ∷ is) none = absurd none
+told_named s st m (Groups n ∷ is) none =
+    ap (λ w. tests s st (Groups n) ++ w) (told_named s (record st { next = st.next + 1; groups = n; group = 0; key_before = None; from = 0 }) m is none)
+told_named s st m (Entries n ∷ is) none = told_named s (record st { entries = n; entry = 0 }) m is none
+told_named s st m (Entry name ∷ is) none = named_next s st m name (named s.triples name) is (λ w k. told_named s w k is none)
+told_named s st m (i ∷ is) none = told_named s st m is none
 
 -- ---- the key, name and values of a group bear on nothing where the next one begins
 
@@ -83,9 +78,8 @@ told_fresh s st key before values (i ∷ is) = told_fresh s st key before values
 
 -- ---- so all that bears on them is in the border
 
-pub told_between : (s : Subject) (st : Reached) (is : List Item) → AllOwn is → GroupBegins is → told s st is ≡ told s (between st) is
-told_between s st [] own begins = refl
-told_between s st (Entries n ∷ is) own begins =
-    sym (told_named s (record st { entries = n; entry = 0 }) 0 is own.1)
-    ∙ sym (told_fresh s (record st { entries = n; named = 0 }) [] first_name [] is)
-told_between s st (i ∷ is) own begins = absurd begins
+pub told_between : (s : Subject) (st : Reached) (is : List Item) → BeginsGroup is → told s st (before_end is) ≡ told s (between st) (before_end is)
+told_between s st (Entries n ∷ is) begins =
+    sym (told_named s (record st { entries = n; entry = 0 }) 0 (before_end is) (none_ends is))
+    ∙ sym (told_fresh s (record st { entries = n; named = 0 }) [] first_name [] (before_end is))
+told_between s st is begins = absurd begins

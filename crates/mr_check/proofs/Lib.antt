@@ -1,11 +1,7 @@
-pub mod AcceptLemmas
 pub mod BorderLemmas
 pub mod ClaimLemmas
-pub mod FrontLemmas
-pub mod IndexLemmas
 pub mod JoinedLemmas
 pub mod LineKeyLemmas
-pub mod OwnLemmas
 pub mod SectionLemmas
 pub mod WalkLemmas
 pub mod WindowsLemmas

@@ -1,5 +1,6 @@
 -- A walk that takes entries at their word.
-use Rattle.std.proofs.Common.{◌≡◌, ℕ, ◌+◌, ◌≤◌, true, Some, None, Ok, List, [], ◌∷◌, length, refl, ap, sym, ◌∙◌, arith}
+use Rattle.std.proofs.Common.{◌≡◌, ℕ, ◌+◌, ◌-◌, ◌≤◌, ◌<◌, true, Some, None, Ok, List, [], ◌∷◌, ◌++◌, length, drop, refl, ap, sym, ◌∙◌, subst, arith}
+use Rattle.std.proofs.lemmas.List.{drop-drop, get_or-drop}
 use Rattle.std.specs.Prelude.{nat_le}
 use Rattle.std.proofs.lemmas.Bool.{false≢true, le-leb}
 use Rattle.mr_bytes.specs.declared.Name.{Name}
@@ -14,16 +15,28 @@ use Rattle.mr_certform.specs.declared.grammar_state.Item.{Item}
 use Rattle.mr_certform.specs.declared.grammar_state.Item.TheVariants.{Entry, End}
 use Rattle.mr_sequential.specs.Good.{named}
 use Rattle.mr_verdict.specs.declared.answers.No.TheVariants.{Unnamed}
+use Rattle.mr_input.specs.Files.{contents, nth_file}
+use Rattle.mr_index.specs.Index.{triples_of}
+use Rattle.mr_jobs.specs.JobSpec.{RequestSpec}
+use Rattle.mr_splits.specs.Kept.{Choice}
+use Rattle.mr_judge.specs.declared.border.Border.{Border}
+use Rattle.mr_judge.specs.Borders.{at_border}
+use Rattle.mr_judge.specs.Outputs.{Leaves}
+use Rattle.mr_check.specs.declared.front.Front.{Front}
+use Rattle.mr_check.specs.declared.given.Given.{Given}
+use Rattle.mr_check.specs.Accepted.{known_behind}
+use Rattle.mr_check.specs.Sections.{AllPass, IsSmall}
 use Rattle.mr_verdict.specs.Verdict.{Reached, Subject, start, tests, after, part_faults, first, entries_in}
+use Rattle.mr_verdict.specs.VerdictLaws.{told}
 use Rattle.mr_verdict.specs.Steps.{Known, Room, subject}
 use Rattle.mr_verdict.specs.Items.{Coming, CanCome, Took}
 use Rattle.mr_judge.specs.declared.border.FoundItem.{FoundItem}
 use Rattle.mr_judge.specs.Rows.{brought, row_after, item_after}
-use Rattle.mr_judge.proofs.Faults.{first_more, fine}
-use Rattle.mr_judge.proofs.PartLemmas.{entry_room, room_after, faults_step, entries_more, named_after}
+use Rattle.mr_judge.proofs.Faults.{fine}
+use Rattle.mr_judge.proofs.PartLemmas.{entry_room, room_after, entries_more, named_after}
 use Rattle.mr_check.specs.Joined.{joined}
 use Rattle.mr_check.specs.Claims.{Claim, IsRight}
-use Rattle.mr_check.specs.Walk.{HoldsFor, IsTold, Walked}
+use Rattle.mr_check.specs.Walk.{HoldsFor, IsTold, Passed, before_end, ends_once, known}
 use Rattle.mr_check.specs.declared.walk.Told.{Told}
 
 -- what was put off before is right where all that was put off behind it is
@@ -78,33 +91,100 @@ pub took_more : (old new : Coming) (i : Item) → (i ≡ End → ⊥) → Took o
 took_more old new End other t is at n = absurd (other refl)
 took_more old new i other t is at n = t is at n
 
--- the walk came so far: of items that might come before, those that may come now are left, and what was put off being right,
--- their faults are left
-abbrev pub Going : Coming → Coming → Known → List Claim → Reached → Type 0
-Going old now k claims st =
-    HoldsFor k claims → (is : List Item) (at : ℕ) → now is at
-    → (js : List Item) × (old js at × ((first (part_faults (subject k) at st is) ≡ first (part_faults (subject k) at start js)) × (entries_in js ≡ st.named + entries_in is)))
+-- an item that passes leaves what is behind it
+pub passed_next : (s : Subject) (old st next : Reached) (is left : List Item) (i : Item) → (i ≡ End → ⊥) → Passed s old st is (i ∷ left)
+    → tests s st i ≡ [] → next ≡ after s st i → Passed s old next is left
+passed_next s old st next is left i other h none e = record {
+  same = h.same ∙ (ap (told s st) (before i left other) ∙ (ap (λ w. w ++ told s (after s st i) (before_end left)) none ∙ ap (λ (w : Reached). told s w (before_end left)) (sym e)));
+  named = omega (arith, h.named, entries_more i left, ap (λ (w : Reached). w.named) e, named_after s st i none);
+  ended = h.ended ∙ ended_on i left other;
+}
+  where
+    before : (i : Item) (left : List Item) → (i ≡ End → ⊥) → before_end (i ∷ left) ≡ i ∷ before_end left
+    before End left other = absurd (other refl)
+    before i left other = refl
 
-pub going_first : (old : Coming) (k : Known) (claims : List Claim) (st : Reached) → st ≡ start → Going old old k claims st
-going_first old k claims st e holds is at n =
-    (is, (n, (ap (λ (w : Reached). first (part_faults (subject k) at w is)) e, omega (arith, ap (λ (w : Reached). w.named) e))))
+    ended_on : (i : Item) (left : List Item) → (i ≡ End → ⊥) → ends_once (i ∷ left) ≡ ends_once left
+    ended_on End left other = absurd (other refl)
+    ended_on i left other = refl
 
-pub going_next : (old now new : Coming) (k : Known) (before after_ : List Claim) (st next : Reached) (i : Item) → (i ≡ End → ⊥)
-    → Going old now k before st → Took now new (Ok i) → ((c : Claim) → Has before c → Has after_ c)
-    → (HoldsFor k after_ → (tests (subject k) st i ≡ []) × (next ≡ after (subject k) st i)) → Going old new k after_ next
-going_next old now new k before after_ st next i other going took kept passed holds is at n =
-    let came = took_more now new i other took is at n in
-    let g = going (holds_kept k before after_ kept holds) (i ∷ is) at came in
+pub passed_none : (s : Subject) (st : Reached) (is : List Item) → Passed s st st is is
+passed_none s st is = record { same = refl; named = refl; ended = refl }
+
+-- a walk took so many items: of those that might come before, those that may come now are left, and what was put off being
+-- right, the others passed
+abbrev pub Going : Coming → Coming → Known → List Claim → Reached → Reached → ℕ → Type 0
+Going old now k claims first st n =
+    HoldsFor k claims → (left : List Item) (at : ℕ) → now left at → (is : List Item) × (old is at × ((left ≡ drop n is) × Passed (subject k) first st is left))
+
+pub going_first : (old : Coming) (k : Known) (claims : List Claim) (st : Reached) (n : ℕ) → n ≡ 0 → Going old old k claims st st n
+going_first old k claims st n e holds left at there = (left, (there, (ap (λ w. drop w left) (sym e), passed_none (subject k) st left)))
+
+pub going_next : (old now new : Coming) (k : Known) (before after_ : List Claim) (first st next : Reached) (n m : ℕ) (i : Item) → (i ≡ End → ⊥)
+    → Going old now k before first st n → Took now new (Ok i) → ((c : Claim) → Has before c → Has after_ c) → m ≡ n + 1
+    → (HoldsFor k after_ → (tests (subject k) st i ≡ []) × (next ≡ after (subject k) st i)) → Going old new k after_ first next m
+going_next old now new k before after_ first st next n m i other going took kept e passed holds left at there =
+    let g = going (holds_kept k before after_ kept holds) (i ∷ left) at (took_more now new i other took left at there) in
     let p = passed holds in
-    let s : Subject = subject k in
-    let step = ap (λ (w : Reached). first (part_faults s at w is)) p.1 ∙ (sym (first_more (tests s st i) (part_faults s at (after s st i) is) p.0) ∙ sym (ap first (faults_step s at st i is other))) in
-    (g.0, (g.1.0, (step ∙ g.1.1.0, omega (arith, g.1.1.1, entries_more i is, ap (λ (w : Reached). w.named) p.1, named_after s st i p.0))))
+    let behind : left ≡ drop m g.0 = ap (drop 1) g.1.1.0 ∙ (drop-drop 1 n g.0 ∙ ap (λ w. drop w g.0) (sym e)) in
+    (g.0, (g.1.0, (behind, passed_next (subject k) first st next g.0 left i other g.1.1.1 p.0 p.1)))
 
 -- behind the end
-pub going_ends : (old now new : Coming) (k : Known) (claims : List Claim) (st : Reached) → Going old now k claims st → Took now new (Ok End) → CanCome new → Walked old k claims st.named
-going_ends old now new k claims st going took (is, (at, n)) holds few =
-    let t = took is at n in
-    let g = going holds is at t.0 in
-    let s : Subject = subject k in
-    let none : first (part_faults s at st is) ≡ None = ap (λ (w : List Item). first (part_faults s at st w)) t.1 ∙ ap first (fine (nat_le (length k.triples) st.named) (Unnamed (length k.triples) st.named) (le-leb (length k.triples) st.named (omega (arith, few)))) in
-    (g.0, (at, (g.1.0, (sym g.1.1.0 ∙ none, omega (arith, g.1.1.1, ap entries_in t.1)))))
+pub going_ends : (old now new : Coming) (k : Known) (claims : List Claim) (first st : Reached) (n : ℕ) → Going old now k claims first st n → Took now new (Ok End) → CanCome new
+    → HoldsFor k claims → (is : List Item) × ((at : ℕ) × (old is at × Passed (subject k) first st is (End ∷ [])))
+going_ends old now new k claims first st n going took (left, (at, there)) holds =
+    let t = took left at there in
+    let g = going holds left at t.0 in
+    (g.0, (at, (g.1.0, subst (λ (w : List Item). Passed (subject k) first st g.0 w) t.1 g.1.1.1)))
+
+-- ---- all items passed
+
+nothing_left : {A : Type 0} (xs ys : List A) → xs ++ ys ≡ [] → (xs ≡ []) × (ys ≡ [])
+nothing_left [] ys h = (refl, h)
+nothing_left (x ∷ xs) ys h = absurd (cc h)
+
+-- where nothing is told before the end, and each pair is named, nothing is told at all
+pub faults_none : (s : Subject) (at : ℕ) (st : Reached) (is : List Item) → told s st (before_end is) ≡ [] → ends_once is ≡ true → length s.triples ≤ st.named + entries_in is → part_faults s at st is ≡ []
+faults_none s at st [] none ended few = absurd (false≢true ended)
+faults_none s at st (End ∷ []) none ended few = fine (nat_le (length s.triples) st.named) (Unnamed (length s.triples) st.named) (le-leb (length s.triples) st.named (omega (arith, few)))
+faults_none s at st (End ∷ i ∷ is) none ended few = absurd (false≢true ended)
+faults_none s at st (i ∷ is) none ended few =
+    let parts = nothing_left (tests s st i) (told s (after s st i) (before_end is)) none in
+    ap (λ w. w ++ part_faults s at (after s st i) is) parts.0
+    ∙ faults_none s at (after s st i) is parts.1 ended (omega (arith, few, entries_more i is, named_after s st i parts.0))
+
+-- so nothing is told of all items, where there are as many pairs as entries
+pub accepted : (k : Known) (is : List Item) (at n : ℕ) → AllPass (subject k) is n → length k.triples ≡ n → (first (part_faults (subject k) at start is) ≡ None) × (n ≡ entries_in is)
+accepted k is at n h few = (ap first (faults_none (subject k) at start is h.none h.ended (omega (arith, few, h.named))), sym h.named)
+
+pub passed_all : (s : Subject) (st new : Reached) (is : List Item) → st ≡ start → Passed s st new is (End ∷ []) → AllPass s is new.named
+passed_all s st new is e h = record {
+  none = ap (λ (w : Reached). told s w (before_end is)) (sym e) ∙ h.same;
+  named = omega (arith, h.named, ap (λ (w : Reached). w.named) e);
+  ended = h.ended;
+}
+
+-- ---- what is given behind a front
+
+pub known_same : (g : Given) (f : Front) → g.request.now ≡ f.request.now → g.kept.now ≡ record { cut = f.plan; skips = f.skips.items } → g.outputs.now ≡ contents f.outputs.now → known g ≡ known_behind f
+known_same g f r c o =
+    ap (λ (q : RequestSpec). record { request = q; triples = triples_of q.job g.kept.now.cut g.kept.now.skips; outputs = g.outputs.now }) r
+    ∙ ap (λ (w : Choice). record { request = f.request.now; triples = triples_of f.request.now.job w.cut w.skips; outputs = g.outputs.now }) c
+    ∙ ap (λ (w : List (List ℕ)). record { request = f.request.now; triples = triples_of f.request.now.job f.plan f.skips.items; outputs = w }) o
+
+-- ---- a walk that begins at a border
+
+pub leaves_at : (st : Reached) (b : Border) (outs : List (List ℕ)) (rest : List ℕ) (later : List (List ℕ)) → st ≡ at_border b → rest ≡ drop b.from (nth_file outs (b.next - 1)) → later ≡ drop b.next outs
+    → Leaves st outs rest later
+leaves_at st b outs rest later e r l = record {
+  rest_is = ap (λ (w : Reached). drop w.from (nth_file outs (w.next - 1))) e ∙ sym r;
+  later_is = λ q. ap (λ (w : Reached). nth_file outs (w.next + q)) e ∙ (sym (nth_dropped b.next q outs) ∙ ap (λ (w : List (List ℕ)). nth_file w q) (sym l));
+}
+  where
+    nth_dropped : (n q : ℕ) (xs : List (List ℕ)) → nth_file (drop n xs) q ≡ nth_file xs (n + q)
+    nth_dropped n q xs = get_or-drop n xs q []
+
+pub border_room : (b : Border) (st : Reached) (n : ℕ) → IsSmall b → st ≡ at_border b → n < 9223372036854775808 → Room st n 9223372041149743104
+border_room b st n small e few =
+    subst (λ (w : Reached). Room w n 9223372041149743104) (sym e)
+    (record { next = omega (arith, small.next, few); group = omega (arith, small.group, few); entry = omega (arith, few); named = omega (arith, few); values = omega (arith, few) })

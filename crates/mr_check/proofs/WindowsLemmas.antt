@@ -9,11 +9,7 @@ use Rattle.mr_check.specs.Claims.{Division, Taken, IsRight, IsRightWindow, claim
 use Rattle.mr_check.specs.Joined.{joined}
 use Rattle.mr_check.specs.Walk.{known}
 use Rattle.mr_check.specs.Windows.{IsRightIn}
-use Rattle.mr_check.specs.declared.walk.Given.{Given}
-
--- what stands past the last claims
-abbrev pub no_claims : Taken
-no_claims = record { windows = record { bits = 0; list = [] }; lists = [] }
+use Rattle.mr_check.specs.declared.given.Given.{Given}
 
 -- a window whose late entries are right
 pub right_list : (g : Given) (by : Division) (w : ℕ) (t : Taken) → t.windows ≡ by → All (IsRightIn g by.bits (nth_window by.list w)) (nth_list t.lists w) → IsRightWindow (known g).triples (joined (known g).outputs) t w

@@ -1,10 +1,7 @@
 pub mod Accepted
-pub mod Ahead
 pub mod Claims
-pub mod Fronts
 pub mod Joined
 pub mod Lines
 pub mod Sections
-pub mod Threads
 pub mod Walk
 pub mod Windows

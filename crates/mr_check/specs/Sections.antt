@@ -1,83 +1,67 @@
--- Of no public promise: the sections of a partition, which are judged each by itself, from the border that it is guessed to begin at.
-use Rattle.std.specs.Prelude.{◌≡◌, ◌≤◌, ◌<◌, ◌+◌, ◌-◌, ◌^◌, ◌++◌, ℕ, zero, suc, Option, Some, None, Result, Ok, Err, Bool, List, [], ◌∷◌, length, drop, true, false, slice_index_or}
+-- Of no public promise: the sections of a certificate, which are walked each by itself.
+use Rattle.std.specs.Prelude.{◌≡◌, ◌≤◌, ◌<◌, ◌+◌, ◌^◌, ℕ, true, List, [], ◌∷◌, drop, length, slice_index_or}
 use Rattle.mr_certform.specs.declared.grammar_state.Item.{Item}
-use Rattle.mr_certform.specs.declared.grammar_state.Item.TheVariants.{Entries}
+use Rattle.mr_certform.specs.declared.grammar_state.Item.TheVariants.{Entries, End}
 use Rattle.mr_certform.specs.Walking.{items_left}
-use Rattle.mr_certform.specs.declared.walker.Walker.{Walker}
-use Rattle.mr_verdict.specs.declared.answers.No.{No}
-use Rattle.mr_verdict.specs.Verdict.{Reached, Subject, first}
-use Rattle.mr_verdict.specs.VerdictLaws.{told, piece}
+use Rattle.mr_verdict.specs.Verdict.{Reached, Subject, start, entries_in}
+use Rattle.mr_verdict.specs.VerdictLaws.{told}
+use Rattle.mr_verdict.specs.Steps.{Known, subject}
+use Rattle.mr_judge.specs.Borders.{at_border, between}
 use Rattle.mr_judge.specs.declared.border.Border.{Border}
-use Rattle.mr_verdict.specs.Steps.{Answers}
-use Rattle.mr_judge.specs.Borders.{at_border}
-use Rattle.mr_check.specs.declared.front.Front.{Front}
-use Rattle.mr_check.specs.declared.front.Section.{Section}
-use Rattle.mr_check.specs.declared.fronts.Reach.{Reach}
-use Rattle.mr_check.specs.declared.sections.Outcome.{Outcome}
-use Rattle.mr_check.specs.declared.sections.Outcome.TheVariants.{Fault, Ended, Reached as Behind}
-use Rattle.mr_check.specs.declared.sections.Judged.{Judged}
-use Rattle.mr_check.specs.Fronts.{part_here, part_at}
+use Rattle.mr_check.specs.declared.section.Section.{Section}
+use Rattle.mr_check.specs.declared.walk.Came.{Came}
+use Rattle.mr_check.specs.declared.walk.Came.TheVariants.{To, ToEnd, Nowhere}
+use Rattle.mr_check.specs.declared.walk.Walked.{Walked}
+use Rattle.mr_check.specs.Claims.{claims_of}
+use Rattle.mr_check.specs.Walk.{HoldsFor, Passed, before_end, ends_once}
 
--- the items of a partition from here on, of which so many stand before
-abbrev pub part_from : ℕ → List Item → List Item
-part_from zero is = part_here is
-part_from (suc n) is = piece is
+-- a group begins
+abbrev pub BeginsGroup : List Item → Type 0
+BeginsGroup (Entries n ∷ is) = Unit {0}
+BeginsGroup is = ⊥
 
--- a group begins, or nothing is left
-abbrev pub GroupBegins : List Item → Type 0
-GroupBegins [] = Unit {0}
-GroupBegins (Entries n ∷ is) = Unit {0}
-GroupBegins (i ∷ is) = ⊥
+-- so many of the items come before it
+abbrev pub IsAt : List Item → Section → Type 0
+IsAt all s = items_left s.walker ≡ drop s.at all
 
--- the items of a section's partition from its front on
-abbrev pub rest_at : List Front → Section → List Item
-rest_at fs s = drop s.at (part_at fs s.part)
+-- a section begins behind so many of the items, and at a group unless it is the first
+pub record IsSection (all : List Item) (s : Section) : Type 0 where
+  pub here : IsAt all s
+  pub begins : 1 ≤ s.at → BeginsGroup (items_left s.walker)
 
--- it begins in one of the partitions, at its front or where a group does
-pub record IsSection (fs : List Front) (s : Section) : Type 0 where
-  pub part : s.part < length fs
-  pub here : part_from s.at (items_left s.walker) ≡ rest_at fs s
-  pub begins : 1 ≤ s.at → GroupBegins (rest_at fs s)
+-- a border that leaves room to count on
+pub record IsSmall (b : Border) : Type 0 where
+  pub next : b.next ≤ 2 ^ 32
+  pub group : b.group ≤ 2 ^ 32
 
--- one more partition was kept, which begins here
-abbrev pub IsOpened : List Front → List Front → Walker → Type 0
-IsOpened old new w = (f : Front) × ((new ≡ old ++ f ∷ []) × (f.walker ≡ w))
+-- where a walk over items came to: it passed those of them that it was to take, or all
+abbrev pub CameTo : Subject → List Item → Walked → Came → Type 0
+CameTo s is w (To b) =
+    (st : Reached) × ((at_border b ≡ between st) × ((w.named ≡ st.named) × Passed s (at_border w.began) st is (drop w.most is)))
+CameTo s is w ToEnd = (st : Reached) × ((w.named ≡ st.named) × Passed s (at_border w.began) st is (End ∷ []))
+CameTo s is w Nowhere = Unit {0}
 
--- a walk came so far in the last of the partitions, and these items are left
-pub record HasWalked (fs : List Front) (r : Reach) (is : List Item) : Type 0 where
-  pub few : r.items + length is ≤ 2 ^ 63
-  pub group : r.group ≤ r.items
-  pub entries : r.entries ≤ r.items
-  pub fresh : r.fresh ≤ r.items
-  pub opened : 1 ≤ length fs → (1 ≤ r.items) × (piece is ≡ drop r.items (part_at fs (length fs - 1)))
+-- so it is if what was put off is right
+abbrev pub IsWalked : Known → List Item → Walked → Type 0
+IsWalked k is w = HoldsFor k (claims_of w.claims) → CameTo (subject k) is w w.came
 
--- so many of a partition's items were judged, or all: it ends, and no test failed; or none but what may be told behind
--- them; or the first fault
-abbrev pub StretchJudged : Subject → Reached → Reached → List Item → ℕ → Result Bool No → Type 0
-StretchJudged s old new is n (Ok true) = first (told s old is) ≡ None
-StretchJudged s old new is n (Ok false) = first (told s old is) ≡ first (told s new (drop n is))
-StretchJudged s old new is n (Err e) = Answers (told s old is) e
+-- each section was walked
+abbrev pub AreWalked : Known → List Section → List Walked → Type 0
+AreWalked k ss ws = (i : ℕ) (s : Section) (w : Walked) → i < length ws → IsWalked k (items_left (slice_index_or ss i s).walker) (slice_index_or ws i w)
 
--- and this border was reached
-abbrev pub SectionJudged : Subject → Reached → List Item → ℕ → Result (Option Border) No → Type 0
-SectionJudged s st is n (Ok None) = first (told s st is) ≡ None
-SectionJudged s st is n (Ok (Some b)) = first (told s st is) ≡ first (told s (at_border b) (drop n is))
-SectionJudged s st is n (Err e) = Answers (told s st is) e
+-- the next section begins behind the items of this one, and the walk over it at the border to which this one came
+pub record GoesOn (ss : List Section) (ws : List Walked) (i : ℕ) (b : Border) : Type 0 where
+  pub at : (s d : Section) (w : Walked) → (slice_index_or ss (i + 1) s).at ≡ (slice_index_or ss i d).at + (slice_index_or ws i w).most
+  pub past : (s : Section) → 1 ≤ (slice_index_or ss (i + 1) s).at
+  pub border : (w : Walked) → at_border (slice_index_or ws (i + 1) w).began ≡ at_border b
 
--- the same, of what is kept of it
-abbrev pub OutcomeTold : Subject → Reached → List Item → ℕ → Outcome → Type 0
-OutcomeTold s st is n (Fault e) = first (told s st is) ≡ Some e
-OutcomeTold s st is n Ended = first (told s st is) ≡ None
-OutcomeTold s st is n (Behind b) = first (told s st is) ≡ first (told s (at_border b) (drop n is))
+-- the first walk began before the first partition, with the first item
+pub record BeginsFirst (ss : List Section) (ws : List Walked) : Type 0 where
+  pub at : (s : Section) → (slice_index_or ss 0 s).at ≡ 0
+  pub border : (w : Walked) → at_border (slice_index_or ws 0 w).began ≡ start
 
--- from the border that it was guessed to begin at
-abbrev pub IsJudged : Subject → List Item → Judged → Type 0
-IsJudged s is j = OutcomeTold s (at_border j.began) is j.count j.outcome
-
--- and so of one of the sections
-abbrev pub IsJudgedAt : Subject → List Front → List Section → ℕ → Judged → Type 0
-IsJudgedAt s fs ss i j = (d : Section) → IsJudged s (rest_at fs (slice_index_or ss i d)) j
-
--- and so of all of them
-abbrev pub AreJudged : Subject → List Front → List Section → List Judged → Type 0
-AreJudged s fs ss js = (length js ≡ length ss) × ((i : ℕ) (d : Judged) → i < length ss → IsJudgedAt s fs ss i (slice_index_or js i d))
+-- all items pass from the first partition on, and end; so many are entries
+pub record AllPass (s : Subject) (is : List Item) (n : ℕ) : Type 0 where
+  pub none : told s start (before_end is) ≡ []
+  pub named : entries_in is ≡ n
+  pub ended : ends_once is ≡ true

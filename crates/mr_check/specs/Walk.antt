@@ -1,18 +1,23 @@
 -- Of no public promise: a walk over a certificate's items that takes each entry at its word.
-use Rattle.std.specs.Prelude.{◌≡◌, ℕ, ◌+◌, List, [], Some, None, IfSome, drop, length}
+use Rattle.std.specs.Prelude.{◌≡◌, ℕ, ◌+◌, Bool, true, false, List, [], ◌∷◌, Some, None, IfSome, drop}
 use Rattle.mr_bytes.specs.Lists.{Has}
 use Rattle.mr_input.specs.Files.{contents}
 use Rattle.mr_certform.specs.declared.grammar_state.Item.{Item}
-use Rattle.mr_verdict.specs.Verdict.{part_faults, start, first, entries_in, tests, after}
+use Rattle.mr_certform.specs.declared.grammar_state.Item.TheVariants.{End}
+use Rattle.mr_verdict.specs.Verdict.{Reached, Subject, part_faults, start, first, entries_in, tests, after}
+use Rattle.mr_verdict.specs.VerdictLaws.{told}
 use Rattle.mr_verdict.specs.Steps.{Known, subject, Room}
 use Rattle.mr_verdict.specs.Items.{Coming}
 use Rattle.mr_index.specs.Index.{triples_of}
+use Rattle.mr_judge.specs.Borders.{at_border, between}
 use Rattle.mr_judge.specs.Outputs.{Leaves}
 use Rattle.mr_check.specs.Joined.{joined}
 use Rattle.mr_check.specs.Lines.{told_key}
 use Rattle.mr_check.specs.Claims.{Claim, AreRight, claims_of}
-use Rattle.mr_check.specs.declared.walk.Given.{Given}
+use Rattle.mr_check.specs.declared.given.Given.{Given}
 use Rattle.mr_check.specs.declared.walk.Told.{Told}
+use Rattle.mr_check.specs.declared.walk.Came.{Came}
+use Rattle.mr_check.specs.declared.walk.Came.TheVariants.{To, ToEnd, Nowhere}
 use Rattle.mr_check.specs.declared.walk.Walk.{Walk}
 
 -- what is known of what is given: the pairs are those that the job emits for the records that are kept
@@ -41,13 +46,40 @@ pub record Stands (k : Known) (w : Walk) : Type 0 where
 -- passed, and so much is remembered behind it
 pub record TakesItem (k : Known) (old new : Walk) (i : Item) : Type 0 where
   pub kept : (c : Claim) → Has (claims_of old.claims) c → Has (claims_of new.claims) c
-  pub windows : new.claims.windows ≡ old.claims.windows
   pub room : (more all : ℕ) → Room old.judging (more + 1) all → Room new.judging more all
   pub passed : HoldsFor k (claims_of new.claims) → (tests (subject k) old.judging i ≡ []) × (new.judging ≡ after (subject k) old.judging i)
 
--- of items that might come so many entries were taken at their word: if they keep it, and there are as many pairs, no test
--- fails
-abbrev pub Walked : Coming → Known → List Claim → ℕ → Type 0
-Walked old k claims n =
-    HoldsFor k claims → length k.triples ≡ n
-    → (is : List Item) × ((at : ℕ) × (old is at × ((first (part_faults (subject k) at start is) ≡ None) × (n ≡ entries_in is))))
+-- the items before the end
+abbrev pub before_end : List Item → List Item
+before_end [] = []
+before_end (End ∷ is) = []
+before_end (i ∷ is) = i ∷ before_end is
+
+-- the end comes last, and only there
+abbrev pub ends_once : List Item → Bool
+ends_once [] = false
+ends_once (End ∷ []) = true
+ends_once (End ∷ i ∷ is) = false
+ends_once (i ∷ is) = ends_once is
+
+-- the items that are no longer left were tested, and passed: what is told of all before the end is told of the others
+pub record Passed (s : Subject) (old new : Reached) (is left : List Item) : Type 0 where
+  pub same : told s old (before_end is) ≡ told s new (before_end left)
+  pub named : old.named + entries_in is ≡ new.named + entries_in left
+  pub ended : ends_once is ≡ ends_once left
+
+-- of items that might come a walk took so many, or all up to the end: if what it put off is right, they passed
+abbrev pub Takes : Coming → Coming → Known → Reached → Walk → ℕ → Came → Type 0
+Takes old new k st w n (To b) =
+    (at_border b ≡ between w.judging)
+    × (HoldsFor k (claims_of w.claims)
+    → (left : List Item) (at : ℕ) → new left at
+    → (is : List Item) × (old is at × ((left ≡ drop n is) × Passed (subject k) st w.judging is left)))
+Takes old new k st w n ToEnd =
+    HoldsFor k (claims_of w.claims) → (is : List Item) × ((at : ℕ) × (old is at × Passed (subject k) st w.judging is (End ∷ [])))
+Takes old new k st w n Nowhere = Unit {0}
+
+-- of items that may come these entries are all, and none of the tests fails
+abbrev pub IsAccepted : Coming → Known → ℕ → Type 0
+IsAccepted gives k n =
+    (is : List Item) × ((at : ℕ) × (gives is at × ((first (part_faults (subject k) at start is) ≡ None) × (n ≡ entries_in is))))

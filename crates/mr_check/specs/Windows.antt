@@ -1,13 +1,15 @@
 -- Of no public promise: claims that are tested window by window.
-use Rattle.std.specs.Prelude.{◌≡◌, ℕ, ◌<◌, List, All}
+use Rattle.std.specs.Prelude.{◌≡◌, ℕ, ◌<◌, List, All, length}
 use Rattle.mr_bytes.specs.Pairs.{Triple}
 use Rattle.mr_index.specs.declared.window.Window.{Window}
-use Rattle.mr_index.specs.Windows.{PieceView, IsWindow, piece_of, window_triples}
+use Rattle.mr_index.specs.Windows.{PieceView, Tiles, IsWindow, piece_of, window_triples}
 use Rattle.mr_check.specs.declared.claims.Late.{Late}
-use Rattle.mr_check.specs.declared.walk.Given.{Given}
-use Rattle.mr_check.specs.Claims.{Division, Taken, IsRight, claim_of}
+use Rattle.mr_check.specs.declared.given.Given.{Given}
+use Rattle.mr_check.specs.declared.walk.Walked.{Walked}
+use Rattle.mr_check.specs.Claims.{IsRight, IsRightWindow, claim_of, claims_of, nth_window}
 use Rattle.mr_check.specs.Joined.{joined}
-use Rattle.mr_check.specs.Walk.{known}
+use Rattle.mr_check.specs.Walk.{HoldsFor, known}
+use Rattle.mr_verdict.specs.Steps.{Known}
 
 -- the pairs of a window's records
 abbrev pub pairs_in : Given → Window → List Triple
@@ -23,6 +25,20 @@ pub record IsMapped (g : Given) (w : Window) (p : PieceView) : Type 0 where
 abbrev pub IsRightIn : Given → ℕ → Window → Late → Type 0
 IsRightIn g bits w e = IsRight (known g).triples (joined (known g).outputs) (claim_of bits w e)
 
--- all was claimed by these windows
-abbrev pub AreOf : Division → List Taken → Type 0
-AreOf windows claims = All (λ c. c.windows ≡ windows) claims
+-- what a walk put off is by the windows of what is given
+abbrev pub IsByWindows : Given → Walked → Type 0
+IsByWindows g x = x.claims.windows ≡ g.windows.now
+
+-- and so for all walks; the windows are all of the input
+pub record AreByWindows (g : Given) (walked : List Walked) : Type 0 where
+  pub tiles : Tiles g.kept.now.cut 0 0 g.windows.now.list
+  pub by : All (IsByWindows g) walked
+
+-- a window has so many pairs, and what was claimed of them is right
+pub record IsTested (g : Given) (walked : List Walked) (w n : ℕ) : Type 0 where
+  pub pairs : n ≡ length (pairs_in g (nth_window g.windows.now.list w))
+  pub right : All (λ x. IsRightWindow (known g).triples (joined (known g).outputs) x.claims w) walked
+
+-- all that was claimed is right
+abbrev pub AllHold : Known → List Walked → Type 0
+AllHold k walked = All (λ x. HoldsFor k (claims_of x.claims)) walked

@@ -33,10 +33,7 @@ fn accept_case(alloc: Global, case: &Case<'_>, progress: &dyn Progress) -> Optio
         input: case.input,
     };
     let mut items = walk(case.certificate);
-    match accept(alloc, &computation, case.outputs, &mut items, progress) {
-        Some(yes) => Some(yes),
-        None => None,
-    }
+    accept(alloc, &computation, case.outputs, &mut items, progress)
 }
 
 /// Judges a case as `check` does. It reports now and then to `progress` how many entries were
@@ -72,7 +69,8 @@ pub fn check(
     ensures headline { IfOk result (λ y. IsCertified request.now input.now
         (contents outputs.now) certificate.now y.skips.items y.pairs) }
     ensures yes { IfOk result
-        (λ y. verdict_of request.now input.now (contents outputs.now) certificate.now ≡ Ok (accepted_of y)) }
+        (λ y. verdict_of request.now input.now (contents outputs.now) certificate.now
+        ≡ Ok (accepted_of y)) }
     ensures no { IfErr result (λ e. (e ≡ OutOfMemory)
         ⊎ (verdict_of request.now input.now (contents outputs.now) certificate.now ≡ Err e)) }
 {
@@ -110,8 +108,5 @@ pub fn accept_read<C: CountedRead>(
     let Ok(mut items) = StreamWalker::new(alloc, reader) else {
         return None;
     };
-    match accept(alloc, computation, outputs, &mut items, progress) {
-        Some(yes) => Some(yes),
-        None => None,
-    }
+    accept(alloc, computation, outputs, &mut items, progress)
 }

@@ -210,7 +210,7 @@ fn push_late(lists: &mut [LateList], w: usize, late: Late) -> Result<(), AllocEr
 pub(crate) struct Claims<'a> {
     windows: &'a Windows,
     lists: Vec<LateList>,
-    /// How many more may be claimed.
+    /// How many more bytes of keys may be claimed.
     left: u64,
 }
 
@@ -232,8 +232,8 @@ fn push_empty(alloc: Global, lists: &mut Vec<LateList>, room: usize) -> Result<(
 }
 
 impl<'a> Claims<'a> {
-    /// Nothing claimed yet, and at most `most` to come. Each window has room for its share of
-    /// `expected`, and an eighth more.
+    /// Nothing claimed yet, and keys of at most `most` bytes to come. Each window has room for its
+    /// share of `expected`, and an eighth more.
     pub fn new(
         alloc: Global,
         windows: &'a Windows,
@@ -257,15 +257,17 @@ impl<'a> Claims<'a> {
         })
     }
 
-    /// Takes an entry at its word. False if there is no window of its pair, if the pair's number
-    /// takes more than 32 bits, or if no more may be claimed.
+    /// Takes an entry at its word, under a key of `size` bytes. False if there is no window of its
+    /// pair, if the pair's number takes more than 32 bits, or if the keys claimed so far have more
+    /// bytes than those of all pairs can have.
     #[inline]
-    pub fn take(&mut self, name: Name, line: u32) -> Result<bool, AllocError>
+    pub fn take(&mut self, name: Name, line: u32, size: usize) -> Result<bool, AllocError>
         ensures put { IfOk result (λ b. IsTrue b → PutsOff (claims_of self.old)
             (record { name = name; line = line }) (claims_of self.new)) }
         ensures windows { self.new.windows ≡ self.old.windows }
     {
-        if self.left == 0 {
+        let cost = (size as u64).max(1);
+        if self.left < cost {
             return Ok(false);
         }
         let Some((w, low)) = self.windows.find(name) else {
@@ -275,7 +277,7 @@ impl<'a> Claims<'a> {
             return Ok(false);
         }
         push_late(self.lists.as_mut_slice(), w, Late { line, low })?;
-        self.left -= 1;
+        self.left -= cost;
         Ok(true)
     }
 

@@ -1,35 +1,67 @@
-//! The places at which partitions, and sections of them, begin.
-ghost use Rattle.std.specs.Prelude.{◌≤◌, ◌+◌, ◌^◌, length};
-ghost use Rattle.mr_certform.specs.Walking.{items_left};
+//! Reads what comes before the partitions in a certificate.
+ghost use Rattle.std.specs.Prelude.{◌≡◌, ◌≤◌, ◌<◌, ◌^◌, ℕ, List, Ok, IfSome};
+ghost use Rattle.mr_input.specs.Files.{contents};
+ghost use Rattle.mr_certform.specs.declared.grammar_state.Item.{Item as Read};
+ghost use Rattle.mr_certform.specs.declared.grammar_state.GrammarState.TheVariants.{AtMagic};
+ghost use Rattle.mr_verdict.specs.Items.{CanCome};
+ghost use Rattle.mr_judge.specs.Kinds.{InKind};
+ghost use Rattle.mr_judge.specs.Outputs.{AllJudged};
+ghost use Rattle.mr_check.specs.Accepted.{known_behind};
+ghost use Rattle.mr_check.specs.Walk.{IsAccepted};
 
-use mr_certform::Walker;
+use mr_bytes::RecordName;
+use mr_jobs::Request;
+use mr_judge::plan_of;
+use mr_splits::Plan;
+use mr_verdict::{Computation, ItemSource, expect_count, expect_header, read_skips};
+use std::alloc::Global;
 
-/// Where a partition begins, and which of all sections is its first.
-#[derive(Clone, Copy)]
-pub(crate) struct Front<'a> {
-    pub walker: Walker<'a>,
-    pub first: usize,
-    ghost few: { length (items_left walker) ≤ 2 ^ 63 },
-}
-
-/// Where a section begins: at its partition's front, or at a group. `at` items of the partition
-/// come before it, with `group` groups and `entries` entries; `groups` groups should follow.
-#[derive(Clone, Copy)]
-pub(crate) struct Section<'a> {
-    pub part: u64,
-    pub walker: Walker<'a>,
-    pub at: u64,
-    pub group: u64,
-    pub entries: u64,
-    pub groups: u64,
-    ghost few: { group + length (items_left walker) ≤ 2 ^ 63 },
-}
-
-/// Where partitions and sections begin, in order, and where the items stop, unless they end.
+/// What is known behind the front: the plan of the input, and the records that are left out.
 #[derive(Drop)]
-pub(crate) struct Fronts<'a> {
-    pub list: Vec<Front<'a>>,
-    pub sections: Vec<Section<'a>>,
-    pub entries: u64,
-    pub stop: Option<u64>,
+pub(crate) struct Front<'a> {
+    pub request: &'a Request,
+    pub outputs: &'a [Vec<u8>],
+    pub plan: Plan<'a>,
+    pub skips: Vec<RecordName>,
+}
+
+impl<'a> Front<'a> {
+    /// Reads header and left-out records. If the partitions behind them are accepted, all is.
+    pub fn read<I: ItemSource>(
+        alloc: Global,
+        computation: &Computation<'a>,
+        outputs: &'a [Vec<u8>],
+        items: &mut I,
+    ) -> Option<Front<'a>>
+        requires sound { I.sound items.old }
+        requires given { CanCome (I.gives items.old) }
+        requires few { I.most items.old ≤ 2 ^ 63 }
+        requires front { (is : List Read) (at : ℕ) → I.gives items.old is at → InKind AtMagic is }
+        ensures sound { IfSome result (λ _. I.sound items.new) }
+        ensures few { IfSome result (λ _. I.most items.new < 2 ^ 63) }
+        ensures yes { IfSome result (λ f. (n : ℕ)
+            → IsAccepted (I.gives items.new) (known_behind f) n
+            → AllJudged (I.gives items.old) computation.now.request.now
+            computation.now.input.now 0 0 (Ok (record { skips = f.skips; pairs = n })) (contents outputs.entry.now)) }
+    {
+        let request = computation.request;
+        let Ok(()) = expect_header(items, request, computation.input) else {
+            return None;
+        };
+        let Ok(listed) = expect_count(items, request.max_skips()) else {
+            return None;
+        };
+        let Ok(plan) = plan_of(alloc, request, computation.input) else {
+            return None;
+        };
+        let Ok(skips) = read_skips(alloc, items, &plan, listed) else {
+            return None;
+        };
+        Some(Front {
+            request,
+            outputs,
+            plan,
+            skips,
+        })
+    }
 }

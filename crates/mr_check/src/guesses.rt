@@ -1,16 +1,22 @@
-//! Guesses the borders at which sections begin, from the outputs. A wrong guess only costs time: a
-//! section that was judged from another border than the one reached before it is judged again.
+//! Guesses the borders at which sections begin, from the outputs.
+//!
+//!     section    3 groups, 40 entries before it     output    a \t 1 \n b \t 9 \n c \t 7 \n | d ...
+//!     guess      the output from the fourth line on, behind the key c
+//!
 //! Guesses are right where no section before has a fault: each entry gives a line if texts have one
-//! for each value, else each group does, and a line is a key, a tab, and more without a tab.
-ghost use Rattle.std.specs.Prelude.{◌≡◌, ◌≤◌, ◌<◌, ◌+◌, ◌^◌, IfSome, IsTrue, length};
-ghost use Rattle.mr_verdict.specs.Verdict.{start};
-ghost use Rattle.mr_judge.specs.Borders.{at_border};
+//! for each value, else each group does, and a line is a key, a tab, and more without a tab. Where
+//! a guess is wrong, the walk before comes to another border, and the result is not accepted.
+ghost use Rattle.std.specs.Prelude.{◌≡◌, ◌≤◌, ◌+◌, All, IfOk, IfSome, IsTrue, length};
+ghost use Rattle.mr_check.specs.Sections.{IsSmall};
 
-use crate::front::Section;
+use crate::section::Section;
 use memchr::memrchr;
 use mr_judge::Border;
 use std::alloc::{AllocError, Global};
 use std::simd::prelude::*;
+
+/// The most partitions of a request, and groups of a partition.
+const MOST: u64 = 1 << 32;
 
 /// A walk over the lines of an output: how many bytes and lines it has passed.
 #[derive(Drop)]
@@ -32,7 +38,8 @@ impl<'a> Lines<'a> {
 
     /// The number of line feeds in the next 64 bytes, where there are so many.
     fn feeds_ahead(&self) -> Option<u64>
-        ensures { IfSome result (λ n. (self.now.place + 64 ≤ length self.now.output.now) × (n ≤ 64)) }
+        ensures { IfSome result (λ n. (self.now.place + 64 ≤ length self.now.output.now)
+            × (n ≤ 64)) }
     {
         let block = self.output[self.place..].get(..64)?;
         let feeds = u8x64::from_slice(block).simd_eq(u8x64::splat(b'\n'));
@@ -84,44 +91,14 @@ impl<'a> Lines<'a> {
     }
 }
 
-/// A guess of a border: where in the output the next text begins, and the key before it.
-#[derive(Clone, Copy)]
-pub(crate) struct Guess<'a> {
-    pub from: u64,
-    pub key_before: Option<&'a [u8]>,
-}
-
-impl<'a> Guess<'a> {
-    pub fn at_front() -> Guess<'a> {
-        Guess {
-            from: 0,
-            key_before: None,
-        }
-    }
-
-    pub fn border(&self, section: &Section<'_>) -> Border<'a>
-        requires few { section.now.part < 2 ^ 32 }
-        ensures next { result.next ≤ 2 ^ 32 }
-        ensures group { result.group ≤ section.now.group }
-        ensures front { section.now.at ≡ 0 → at_border result ≡ record start { next = section.now.part } }
-    {
-        if section.at == 0 {
-            return Border::before(section.part);
-        }
-        Border {
-            next: section.part + 1,
-            groups: section.groups,
-            group: section.group,
-            key_before: self.key_before,
-            from: self.from,
-        }
-    }
-}
-
-/// Guesses by the lines before a section in its partition's output, where there are as many.
-fn guess_at<'a>(lines: &mut Lines<'a>, section: &Section<'_>, has_lines: bool) -> Guess<'a> {
-    if section.at == 0 {
-        return Guess::at_front();
+/// Guesses by the lines before a section in its partition's output. Where lines are missing, or
+/// counts are those of no request, the guess is the border before the first partition.
+fn guess_at<'a>(lines: &mut Lines<'a>, section: &Section<'_>, has_lines: bool) -> Border<'a>
+    ensures { IsSmall result }
+{
+    let start = Border::before(0);
+    if section.at == 0 || section.next > MOST || section.group > MOST {
+        return start;
     }
     let wanted = if has_lines {
         section.entries
@@ -132,11 +109,14 @@ fn guess_at<'a>(lines: &mut Lines<'a>, section: &Section<'_>, has_lines: bool) -
     // Where lines are missing, the look back for the key would read all of the last line for each
     // section anew, and a stranger may have made it long. Other sections have a line each.
     if lines.passed < wanted {
-        return Guess::at_front();
+        return start;
     }
-    Guess {
-        from: lines.place as u64,
+    Border {
+        next: section.next,
+        groups: section.groups,
+        group: section.group,
         key_before: lines.key_before(),
+        from: lines.place as u64,
     }
 }
 
@@ -153,14 +133,19 @@ pub(crate) fn guesses_of<'a>(
     outputs: &'a [Vec<u8>],
     has_lines: bool,
     sections: &[Section<'_>],
-) -> Result<Vec<Guess<'a>>, AllocError> {
+) -> Result<Vec<Border<'a>>, AllocError>
+    ensures { IfOk result (λ v. All IsSmall v.items) }
+{
     let mut guesses = Vec::new(alloc);
     let mut lines = Lines::new(b"");
+    let mut next = 0;
     for section in sections {
-        if section.at == 0 {
-            lines = Lines::new(output_of(outputs, section.part));
+        if section.next != next {
+            next = section.next;
+            lines = Lines::new(output_of(outputs, next.saturating_sub(1)));
         }
-        guesses.push(guess_at(&mut lines, section, has_lines))?;
+        let guess = guess_at(&mut lines, section, has_lines);
+        guesses.push(guess)?;
     }
     Ok(guesses)
 }

@@ -2,17 +2,15 @@
 #![tactic(auto)]
 
 mod accept;
-mod alone;
 mod checking;
 mod claims;
 mod front;
-mod front_bytes;
-mod fronts;
+mod given;
 mod guesses;
 mod joined;
 mod lines;
-mod mapping;
 mod options;
+mod section;
 mod sections;
 mod threads;
 mod walk;
@@ -25,5 +23,4 @@ pub use mr_verdict::{
     place_law, worked_places, worked_rows, yes_law,
 };
 pub use options::JudgeOptions;
-pub use sections::{MappedInput, map_input};
 pub use threads::{check_gated, check_threads, judge};

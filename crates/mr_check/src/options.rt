@@ -1,7 +1,6 @@
 //! How a result is judged by threads.
 ghost use Rattle.std.specs.Prelude.{◌≡◌, ◌≤◌, ◌<◌, ◌+◌, ◌^◌};
 
-use crate::sections::MappedInput;
 use mr_bytes::{Gate, Progress};
 use mr_tickets::Drawing;
 use std::alloc::Global;
@@ -16,28 +15,19 @@ pub struct JudgeOptions<'a, G: Gate, W: Progress> {
     pub gate: &'a G,
     /// Each thread reports each piece of work to it.
     pub progress: &'a W,
-    /// The input, where it was mapped ahead of the result.
-    pub mapped: Option<&'a MappedInput<'a>>,
     pub ghost some: { 1 ≤ threads },
     pub ghost few: { threads ≤ 64 },
 }
 
 impl<'a, G: Gate, W: Progress> JudgeOptions<'a, G, W> {
     /// Options for `threads` threads, 1 to 64.
-    pub fn of(
-        threads: u32,
-        gate: &'a G,
-        progress: &'a W,
-        mapped: Option<&'a MappedInput<'a>>,
-    ) -> JudgeOptions<'a, G, W>
+    pub fn of(threads: u32, gate: &'a G, progress: &'a W) -> JudgeOptions<'a, G, W>
         requires { (1 ≤ threads) × (threads ≤ 64) }
-        ensures { result.mapped ≡ mapped.entry }
     {
         JudgeOptions {
             threads,
             gate,
             progress,
-            mapped,
         }
     }
 }

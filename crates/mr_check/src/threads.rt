@@ -1,178 +1,338 @@
-//! The judge on many threads.
-ghost use Rattle.std.specs.Prelude.{◌≡◌, ◌⊎◌, ◌<◌, ◌≤◌, ◌+◌, ◌^◌, IfOk, IfErr, IfSome, MatchResult};
-ghost use Rattle.std.specs.Prelude.{None, Some, length};
+//! The judge by many threads.
+//!
+//!     certificate   | section | section | section |     each walked by the thread that draws it
+//!     joined        each walk comes to the border at which the next one began
+//!     input         | window | window | window | ...    each tested by the thread that draws it
+//!
+//! Sections and windows are drawn. A walk begins at a border that was guessed. Where the one before
+//! comes to another, nothing is accepted: then the calling thread judges plainly.
+ghost use Rattle.std.specs.Prelude.{◌≡◌, ◌⊎◌, ◌<◌, ◌≤◌, ◌+◌, ◌^◌, ℕ, List, All, IfOk, IfErr};
+ghost use Rattle.std.specs.Prelude.{IfSome, IsTrue, Option, Ok, Err, length, slice_index_or};
 ghost use Rattle.mr_input.specs.Files.{contents, split_total};
-ghost use Rattle.mr_certform.specs.declared.grammar_state.GrammarState.TheVariants.{AtSkips};
-ghost use Rattle.mr_certform.specs.Grammar.{InOrder};
-ghost use Rattle.mr_certform.specs.Places.{partitions};
-ghost use Rattle.mr_certform.specs.Walking.{items_left};
+ghost use Rattle.mr_certform.specs.declared.grammar_state.Item.{Item as Read};
+ghost use Rattle.mr_certform.specs.Walking.{items_left, halt};
 ghost use Rattle.mr_verdict.specs.declared.answers.No.TheVariants.{OutOfMemory};
 ghost use Rattle.mr_verdict.specs.Verdict.{verdict_of};
-ghost use Rattle.mr_verdict.specs.VerdictLaws.{back_fault};
+ghost use Rattle.mr_verdict.specs.Steps.{Known, subject};
 ghost use Rattle.mr_verdict.specs.Cases.{IsWorth, verdict_on};
 ghost use Rattle.mr_verdict.specs.Headline.{IsCertified, accepted_of};
-ghost use Rattle.mr_verdict.specs.Steps.{subject};
-ghost use Rattle.mr_index.specs.Index.{triples_of};
-ghost use Rattle.mr_check.specs.Ahead.{IsMappedForCase};
-ghost use Rattle.mr_check.specs.Fronts.{ends_at};
-ghost use Rattle.mr_check.specs.Threads.{PartsJudged, RestJudged, cut_for, subject_before};
+ghost use Rattle.mr_check.specs.Sections.{AllPass, AreWalked, BeginsFirst, GoesOn, IsSection};
+ghost use Rattle.mr_check.specs.Sections.{IsSmall, IsWalked};
+ghost use Rattle.mr_check.specs.Accepted.{known_behind};
+ghost use Rattle.mr_check.specs.Walk.{IsAccepted, known};
+ghost use Rattle.mr_check.specs.Windows.{AllHold, AreByWindows, IsByWindows, IsTested};
 
-use crate::front::Fronts;
-use crate::front_bytes::{expect_count_of, expect_header_of, take_skips_of};
-use crate::fronts::fronts_of;
-use crate::mapping::{Mapped, Source, index_of};
+use crate::accept::claims_for;
+use crate::front::Front;
+use crate::given::{Given, Ground, total_bytes};
+use crate::guesses::guesses_of;
 use crate::options::{Crew, JudgeOptions};
-use crate::sections::{Facts, least_of};
-use mr_bytes::{Gate, OpenGate, Progress, RecordName, Unwatched};
+use crate::section::Section;
+use crate::sections::sections_of;
+use crate::walk::{Came, Walk, Walked};
+use crate::windows::{add, sum_pairs, test_window};
+use mr_bytes::{Gate, OpenGate, Phase, Progress, Unwatched};
 use mr_certform::Walker;
 use mr_input::Input;
 use mr_jobs::Request;
-use mr_judge::{plan_of, test_named, walk};
-use mr_splits::Plan;
-use mr_verdict::{Case, No, Yes};
+use mr_judge::{Border, judge_plainly, walk};
+use mr_tickets::{WorkPieces, draw_all};
+use mr_verdict::{Case, Computation, No, Yes};
 use std::alloc::{AllocError, Global};
 use std::thread::Threads;
 
-/// Tests what comes after the partitions: whether the items end, and whether all pairs have names.
-fn test_back(facts: &Facts<'_>, entries: u64, stop: Option<u64>) -> Result<u64, No>
-    ensures { (at : _) (ended : _) → ends_at at stop ended
-        → (let fault = back_fault (subject facts.now) at entries ended in
-        MatchResult result (λ n. (fault ≡ None) × (n ≡ entries))
-        (λ e. (e ≡ OutOfMemory) ⊎ (fault ≡ Some e))) }
+/// The fewest items of a section: enough for some milliseconds of a thread's work.
+const SECTION: u64 = 65_536;
+
+/// How many bytes of input there are for each item of a section, on one thread. So each thread walks
+/// some sections, and what they put off is in lists that are long enough to be filled.
+const BYTES_AN_ITEM: u64 = 32;
+
+/// Walks a section from the border at which it is guessed to begin, for at most `most` items.
+fn walk_section<'a>(
+    alloc: Global,
+    given: &Given<'a>,
+    section: &Section<'_>,
+    began: Border<'a>,
+    most: u64,
+) -> Result<Walked<'a>, AllocError>
+    requires { IsSmall began }
+    ensures windows { IfOk result (IsByWindows given.now) }
+    ensures walked { IfOk result (IsWalked (known given.now) (items_left section.now.walker)) }
 {
-    if let Some(at) = stop {
-        return Err(No::Malformed { at });
-    }
-    test_named(facts.emitted(), entries)?;
-    Ok(entries)
+    let claims = claims_for(alloc, given, most)?;
+    let mut walk = Walk::at(alloc, given, &began, claims);
+    let mut items = section.walker;
+    let came = walk.take_some(given, &mut items, most, &Unwatched);
+    Ok(walk.end(began, most, came))
 }
 
-/// Judges all partitions, each section by the thread that draws it, and the certificate's end.
-/// Before that it walks all items once, to find where partitions and sections begin. Sections are
-/// numbered on from the pieces of the mapping. Returns the number of entries.
-fn check_parts<R: Threads + Sync, G: Gate, W: Progress>(
-    crew: &Crew<'_, R, G, W>,
-    case: &Case<'_>,
-    source: &Source<'_, '_>,
-    mapped: &Mapped,
-    walker: &Walker<'_>,
-) -> Result<u64, No>
-    requires job { source.now.job.now ≡ case.now.request.now.job }
-    requires plan { source.now.plan.now ≡ cut_for case.now }
-    requires index { mapped.now.index ≡ triples_of source.now.job.now source.now.plan.now source.now.skips.now }
-    requires pieces { mapped.now.pieces < 2 ^ 21 }
-    requires few { length (items_left walker.now) < 2 ^ 63 }
-    requires order { InOrder (partitions case.now.request.now.parts) (items_left walker.now) }
-    ensures { PartsJudged (subject_before case.now source.now.skips.now walker.now) walker.now result }
+/// How many items come before the next section, or before none.
+fn items_in(sections: &[Section<'_>], number: usize) -> u64
+    requires { number < length sections.now }
 {
-    // A request has few parts.
-    let _parts = case.request.parts();
-    let index = &mapped.index;
-    let facts = Facts { case, index };
-    let Fronts {
-        list,
-        sections,
-        entries,
-        stop,
-    } = fronts_of(crew.alloc, walker)?;
-    if let Some(fault) = least_of(crew, &facts, &list, &sections, mapped.pieces)? {
-        return Err(fault);
+    match sections.get(number + 1) {
+        Some(next) => next.at.saturating_sub(sections[number].at),
+        None => u64::MAX,
     }
-    test_back(&facts, entries, stop)
 }
 
-/// Judges the partitions, given the left-out records. It maps the splits, unless they were mapped
-/// ahead and no record is left out.
-fn check_with<R: Threads + Sync, G: Gate, W: Progress>(
-    crew: &Crew<'_, R, G, W>,
-    case: &Case<'_>,
-    plan: &Plan<'_>,
-    skips: &[RecordName],
-    walker: &Walker<'_>,
-) -> Result<u64, No>
-    requires plan { plan.now ≡ cut_for case.now }
-    requires ahead { IfSome crew.now.options.now.mapped (λ m. IsMappedForCase case.now m.now) }
-    requires few { length (items_left walker.now) < 2 ^ 63 }
-    requires order { InOrder (partitions case.now.request.now.parts) (items_left walker.now) }
-    ensures { PartsJudged (subject_before case.now skips.now walker.now) walker.now result }
+/// The sections of a certificate, each to be walked from a border.
+#[derive(Drop)]
+struct Walking<'a, 'g, 's, 'i, 'b, 'w, W: Progress> {
+    given: &'g Given<'a>,
+    sections: &'s [Section<'i>],
+    guesses: &'b [Border<'a>],
+    watch: &'w W,
+}
+
+impl<'a, 'g, 's, 'i, 'b, 'w, W: Progress> WorkPieces for Walking<'a, 'g, 's, 'i, 'b, 'w, W> {
+    ghost use Rattle.std.specs.Prelude.{◌≡◌, ◌<◌, All, length, slice_index_or};
+    ghost use Rattle.mr_certform.specs.Walking.{items_left};
+    ghost use Rattle.mr_check.specs.declared.section.Section.{Section as Begins};
+    ghost use Rattle.mr_check.specs.Sections.{IsSmall, IsWalked};
+    ghost use Rattle.mr_check.specs.Walk.{known};
+    ghost use Rattle.mr_check.specs.Windows.{IsByWindows};
+
+    type Out = Walked<'a>;
+
+    ghost has = { λ j p. (p < length j.sections.now) × (All IsSmall j.guesses.now) };
+
+    ghost gives = { λ j p out. IsByWindows j.given.now out
+        × ((d : Begins) → IsWalked (known j.given.now)
+        (items_left (slice_index_or j.sections.now p d).walker) out) };
+
+    fn do_piece(&self, alloc: Global, number: u32) -> Result<Walked<'a>, AllocError> {
+        let all = self.sections.len() as u64;
+        self.watch.report(Phase::Judging, u64::from(number), all);
+        let at = number as usize;
+        let began = match self.guesses.get(at) {
+            Some(guess) => *guess,
+            None => Border::before(0),
+        };
+        let most = items_in(self.sections, at);
+        walk_section(alloc, self.given, &self.sections[at], began, most)
+    }
+}
+
+/// Whether the next section begins where the walk over this one ended, and the walk over it at the
+/// border to which this one came.
+fn goes_on(
+    sections: &[Section<'_>],
+    walked: &[Walked<'_>],
+    number: usize,
+    came: &Border<'_>,
+) -> bool
+    requires { (number < length sections.now) × (number < length walked.now) }
+    ensures { IsTrue result → GoesOn sections.now walked.now number came.now }
 {
-    let job = case.request.job();
-    let source = Source { plan, job, skips };
-    if let Some(input) = crew.options.mapped {
-        if skips.is_empty() {
-            return check_parts(crew, case, &source, input.mapped(), walker);
+    let (Some(next), Some(after)) = (sections.get(number + 1), walked.get(number + 1)) else {
+        return false;
+    };
+    let section = &sections[number];
+    section.at < next.at && next.at - section.at == walked[number].most && after.began.is_same(came)
+}
+
+/// Whether the first walk began before the first partition, and with the first item.
+fn begins_first(sections: &[Section<'_>], walked: &[Walked<'_>]) -> bool
+    ensures { IsTrue result → BeginsFirst sections.now walked.now }
+{
+    let (Some(section), Some(walk)) = (sections.first(), walked.first()) else {
+        return false;
+    };
+    section.at == 0 && walk.began.is_same(&Border::before(0))
+}
+
+/// How many entries there are, if the walks over all sections fit together: the first one begins
+/// before the first partition, and each comes to where the next began, up to the end.
+fn join(sections: &[Section<'_>], walked: &[Walked<'_>]) -> Option<u64>
+    requires { length walked.now ≡ length sections.now }
+    ensures { (k : Known) (all : List Read)
+        → All (IsSection all) sections.now → AreWalked k sections.now walked.now
+        → IfSome result (λ n. AllHold k walked.now → AllPass (subject k) all n) }
+{
+    if !begins_first(sections, walked) {
+        return None;
+    }
+    let mut sum = 0u64;
+    for number in 0..walked.len() {
+        let walk = &walked[number];
+        let Some(more) = add(sum, walk.named) else {
+            return None;
+        };
+        sum = more;
+        match walk.came {
+            Came::Nowhere => return None,
+            Came::ToEnd => return Some(sum),
+            Came::To(border) => {
+                if !goes_on(sections, walked, number, &border) {
+                    return None;
+                }
+            }
         }
     }
-    let mapped = index_of(crew, &source)?;
-    check_parts(crew, case, &source, &mapped, walker)
+    None
 }
 
-/// Judges what comes after the header, under a plan.
-fn check_planned<R: Threads + Sync, G: Gate, W: Progress>(
-    crew: &Crew<'_, R, G, W>,
-    case: &Case<'_>,
-    plan: &Plan<'_>,
-    walker: &mut Walker<'_>,
-) -> Result<Yes, No>
-    requires plan { plan.now ≡ cut_for case.now }
-    requires ahead { IfSome crew.now.options.now.mapped (λ m. IsMappedForCase case.now m.now) }
-    requires order { InOrder (AtSkips case.now.request.now.parts) (items_left walker.old) }
-    requires few { length (items_left walker.old) < 2 ^ 63 }
-    ensures { RestJudged case.now walker.old result }
-{
-    let listed = expect_count_of(walker, case.request.max_skips())?;
-    let skips = take_skips_of(crew.alloc, walker, plan, listed)?;
-    let pairs = check_with(crew, case, plan, &skips, walker)?;
-    Ok(Yes { skips, pairs })
+/// The windows of the input, each to be tested for what was put off.
+#[derive(Drop)]
+struct Testing<'a, 'g, 'b, 's, 'w, W: Progress> {
+    given: &'g Given<'a>,
+    walked: &'s [Walked<'b>],
+    watch: &'w W,
 }
 
-/// Judges what comes after the header. It makes the plan where the input wasn't mapped ahead.
-fn check_rest<R: Threads + Sync, G: Gate, W: Progress>(
-    crew: &Crew<'_, R, G, W>,
-    case: &Case<'_>,
-    walker: &mut Walker<'_>,
-) -> Result<Yes, No>
-    requires ahead { IfSome crew.now.options.now.mapped (λ m. IsMappedForCase case.now m.now) }
-    requires order { InOrder (AtSkips case.now.request.now.parts) (items_left walker.old) }
-    requires few { length (items_left walker.old) < 2 ^ 63 }
-    ensures { RestJudged case.now walker.old result }
-{
-    if let Some(mapped) = crew.options.mapped {
-        return check_planned(crew, case, mapped.plan(), walker);
+impl<'a, 'g, 'b, 's, 'w, W: Progress> WorkPieces for Testing<'a, 'g, 'b, 's, 'w, W> {
+    ghost use Rattle.std.specs.Prelude.{◌<◌, IfSome, length};
+    ghost use Rattle.mr_check.specs.Windows.{AreByWindows, IsTested};
+
+    type Out = Option<u64>;
+
+    ghost has = { λ t w. (w < length t.given.now.windows.now.list)
+        × AreByWindows t.given.now t.walked.now };
+
+    ghost gives = { λ t w out. IfSome out (IsTested t.given.now t.walked.now w) };
+
+    fn do_piece(&self, alloc: Global, number: u32) -> Result<Option<u64>, AllocError> {
+        let all = self.given.windows.count() as u64;
+        self.watch.report(Phase::Mapping, u64::from(number), all);
+        Ok(test_window(alloc, self.given, self.walked, number as usize))
     }
-    let plan = plan_of(crew.alloc, case.request, case.input)?;
-    check_planned(crew, case, &plan, walker)
 }
 
-/// Judges a case by threads, as `check` does by one. The threads draw the splits and map them; then
-/// they draw the partitions and judge each by itself. Where splits are few for the threads, the
-/// last ones are drawn in pieces; a large partition is drawn in sections. An input that was mapped
-/// ahead is mapped anew only where the certificate leaves records out.
+impl<'c, R: Threads + Sync, G: Gate, W: Progress> Crew<'c, R, G, W> {
+    /// The fewest items of a section, except where a partition's first group begins one.
+    fn share(&self, given: &Given<'_>) -> u64 {
+        let items = total_bytes(given.kept.plan()) / BYTES_AN_ITEM;
+        SECTION.max(items / u64::from(self.options.threads))
+    }
+
+    /// Walks all sections, which the gate numbers on from the windows.
+    fn walk_sections<'a>(
+        &self,
+        given: &Given<'a>,
+        sections: &[Section<'_>],
+    ) -> Result<Vec<Walked<'a>>, AllocError>
+        requires { length given.now.windows.now.list + length sections.now < 2 ^ 32 }
+        ensures same { IfOk result (λ v. length v.items ≡ length sections.now) }
+        ensures by { IfOk result (λ v. All (IsByWindows given.now) v.items) }
+        ensures walked { IfOk result (λ v. AreWalked (known given.now) sections.now v.items) }
+    {
+        let outputs = given.outputs.outputs();
+        let guesses = guesses_of(
+            self.alloc,
+            outputs,
+            given.request.job().has_lines(),
+            sections,
+        )?;
+        let walking = Walking {
+            given,
+            sections,
+            guesses: &guesses,
+            watch: self.options.progress,
+        };
+        let first = given.windows.count() as u32;
+        let drawing = self.drawing(sections.len() as u32, first);
+        draw_all(self.rt, self.alloc, &walking, &drawing)
+    }
+
+    /// Tests all windows. Returns how many pairs each has, if what was put off is right there.
+    fn test_windows(
+        &self,
+        given: &Given<'_>,
+        walked: &[Walked<'_>],
+    ) -> Result<Vec<Option<u64>>, AllocError>
+        requires few { length given.now.windows.now.list < 2 ^ 32 }
+        requires by { AreByWindows given.now walked.now }
+        ensures all { IfOk result (λ v. length v.items ≡ length given.now.windows.now.list) }
+        ensures tested { IfOk result (λ v. (w : ℕ) (d : Option ℕ) → w < length v.items
+            → IfSome (slice_index_or v.items w d) (IsTested given.now walked.now w)) }
+    {
+        let testing = Testing {
+            given,
+            walked,
+            watch: self.options.progress,
+        };
+        let drawing = self.drawing(given.windows.count() as u32, 0);
+        draw_all(self.rt, self.alloc, &testing, &drawing)
+    }
+
+    /// How many pairs there are, if the partitions are accepted.
+    fn accept_parts(&self, front: &Front<'_>, walker: &Walker<'_>) -> Option<u64>
+        requires { length (items_left walker.now) < 2 ^ 63 }
+        ensures { IfSome result (IsAccepted
+            (λ is at. (is ≡ items_left walker.now) × (at ≡ halt walker.now))
+            (known_behind front.now)) }
+    {
+        let ground = Ground::of(self.alloc, &front.plan, &front.skips, front.outputs)?;
+        let given = ground.given(front.request);
+        let Ok(sections) = sections_of(self.alloc, walker, self.share(&given)) else {
+            return None;
+        };
+        let pieces = given.windows.count().saturating_add(sections.len());
+        if pieces > u32::MAX as usize {
+            return None;
+        }
+        let Ok(walked) = self.walk_sections(&given, &sections) else {
+            return None;
+        };
+        let named = join(&sections, &walked)?;
+        let Ok(tested) = self.test_windows(&given, &walked) else {
+            return None;
+        };
+        let emitted = sum_pairs(&given, &walked, &tested)?;
+        if emitted != named {
+            return None;
+        }
+        Some(named)
+    }
+
+    /// The yes to a case, if it is accepted.
+    fn accept(&self, case: &Case<'_>) -> Option<Yes>
+        ensures headline { IfSome result (IsWorth case.now) }
+        ensures yes { IfSome result (λ y. verdict_on case.now ≡ Ok (accepted_of y)) }
+    {
+        // A request's splits have at least one byte.
+        let _size = case.request.split_size();
+        if case.outputs.len() != case.request.parts() as usize {
+            return None;
+        }
+        let computation = Computation {
+            request: case.request,
+            input: case.input,
+        };
+        let mut items = walk(case.certificate);
+        let front = Front::read(self.alloc, &computation, case.outputs, &mut items)?;
+        let pairs = self.accept_parts(&front, &items)?;
+        Some(Yes {
+            skips: front.skips,
+            pairs,
+        })
+    }
+}
+
+/// Judges a case by threads, as `check` does by one. The threads draw the sections of the
+/// certificate and walk them; then they draw the windows of the input, map each, and test what the
+/// walks put off. Where that gives no yes, the calling thread judges plainly.
 ///
 /// Each thread calls the gate before and after each piece of work that it draws, with the number of
-/// its seat, from 0, and the piece's, from 0: first those of the splits, in order, then the
-/// sections. It reports how many of the phase's pieces were drawn before. All of them are reported
-/// where the sections of a partition don't fit together and it is judged anew.
+/// its seat, from 0, and the piece's, from 0: first those of the windows, split by split, then the
+/// sections. It reports how many of the phase's pieces were drawn before.
 pub fn judge<R: Threads + Sync, G: Gate, W: Progress>(
     rt: &R,
     alloc: Global,
     case: &Case<'_>,
     options: &JudgeOptions<'_, G, W>,
 ) -> Result<Yes, No>
-    requires mapped { IfSome options.now.mapped (λ m. IsMappedForCase case.now m.now) }
     ensures headline { IfOk result (IsWorth case.now) }
     ensures yes { IfOk result (λ y. verdict_on case.now ≡ Ok (accepted_of y)) }
     ensures no { IfErr result (λ e. (e ≡ OutOfMemory) ⊎ (verdict_on case.now ≡ Err e)) }
 {
-    // A request's splits have at least one byte.
-    let _size = case.request.split_size();
-    if case.outputs.len() != case.request.parts() as usize {
-        return Err(No::OutputCount);
-    }
-    let mut walker = walk(case.certificate);
-    expect_header_of(&mut walker, case.request, case.input)?;
     let crew = Crew { rt, alloc, options };
-    check_rest(&crew, case, &mut walker)
+    match crew.accept(case) {
+        Some(yes) => Ok(yes),
+        None => judge_plainly(alloc, case, &Unwatched),
+    }
 }
 
 /// What `check` does, by `threads` threads, from 1 to 64 (`judge`). The answer is that of one
@@ -191,7 +351,8 @@ pub fn check_threads<R: Threads + Sync>(
     ensures headline { IfOk result (λ y. IsCertified request.now input.now
         (contents outputs.now) certificate.now y.skips.items y.pairs) }
     ensures yes { IfOk result
-        (λ y. verdict_of request.now input.now (contents outputs.now) certificate.now ≡ Ok (accepted_of y)) }
+        (λ y. verdict_of request.now input.now (contents outputs.now) certificate.now
+        ≡ Ok (accepted_of y)) }
     ensures no { IfErr result (λ e. (e ≡ OutOfMemory)
         ⊎ (verdict_of request.now input.now (contents outputs.now) certificate.now ≡ Err e)) }
 {
@@ -201,7 +362,7 @@ pub fn check_threads<R: Threads + Sync>(
         outputs,
         certificate,
     };
-    let options = JudgeOptions::of(threads, &OpenGate, &Unwatched, None);
+    let options = JudgeOptions::of(threads, &OpenGate, &Unwatched);
     judge(rt, alloc, &case, &options)
 }
 
@@ -221,7 +382,8 @@ pub fn check_gated<R: Threads + Sync, G: Gate>(
     ensures headline { IfOk result (λ y. IsCertified request.now input.now
         (contents outputs.now) certificate.now y.skips.items y.pairs) }
     ensures yes { IfOk result
-        (λ y. verdict_of request.now input.now (contents outputs.now) certificate.now ≡ Ok (accepted_of y)) }
+        (λ y. verdict_of request.now input.now (contents outputs.now) certificate.now
+        ≡ Ok (accepted_of y)) }
     ensures no { IfErr result (λ e. (e ≡ OutOfMemory)
         ⊎ (verdict_of request.now input.now (contents outputs.now) certificate.now ≡ Err e)) }
 {
@@ -231,6 +393,6 @@ pub fn check_gated<R: Threads + Sync, G: Gate>(
         outputs,
         certificate,
     };
-    let options = JudgeOptions::of(threads, gate, &Unwatched, None);
+    let options = JudgeOptions::of(threads, gate, &Unwatched);
     judge(rt, alloc, &case, &options)
 }

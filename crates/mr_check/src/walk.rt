@@ -10,34 +10,23 @@
 //! key is the one that the output's line tells, and its value is known from the record. So no byte
 //! of the input is read here, and no pair is looked up. What is put off goes to the list of its
 //! window (`Claims`), to be tested when that window is mapped.
-ghost use Rattle.std.specs.Prelude.{◌≡◌, ◌<◌, ◌^◌, [], Some, IfSome, IsTrue};
-ghost use Rattle.mr_bytes.specs.Pairs.{Triple};
+ghost use Rattle.std.specs.Prelude.{◌≡◌, ◌<◌, ◌^◌, [], IfSome, IsTrue};
 ghost use Rattle.mr_certform.specs.declared.grammar_state.Item.TheVariants.{End};
-ghost use Rattle.mr_sequential.specs.Good.{named};
-ghost use Rattle.mr_verdict.specs.Verdict.{start};
 ghost use Rattle.mr_verdict.specs.Steps.{HasRoom};
+ghost use Rattle.mr_judge.specs.Borders.{at_border};
 ghost use Rattle.mr_judge.specs.Rows.{row_subject, row_tests, row_after};
 ghost use Rattle.mr_check.specs.Claims.{claims_of};
-ghost use Rattle.mr_check.specs.Walk.{IsTold, Stands, TakesItem, Walked, known};
+ghost use Rattle.mr_check.specs.Sections.{IsSmall};
+ghost use Rattle.mr_check.specs.Walk.{IsTold, Stands, TakesItem, Takes, known};
 
 use crate::claims::Claims;
-use crate::joined::JoinedOutputs;
+use crate::given::Given;
 use crate::lines::told_key;
-use mr_bytes::{Name, Phase, Progress, RecordName, Throttle, Value};
+use mr_bytes::{Name, Phase, Progress, Throttle};
 use mr_certform::Item;
-use mr_jobs::Request;
-use mr_judge::{FoundItem, JudgeState, MemoryOutputs};
-use mr_splits::KeptPlan;
+use mr_judge::{Border, FoundItem, JudgeState, MemoryOutputs};
 use mr_verdict::ItemSource;
 use std::alloc::Global;
-
-/// What a result is judged against: all but the pairs that the job emits.
-#[derive(Drop)]
-pub(crate) struct Given<'a> {
-    pub request: &'a Request,
-    pub kept: &'a KeptPlan<'a>,
-    pub outputs: &'a JoinedOutputs<'a>,
-}
 
 /// A group's key as a line tells it, and the place of that line in all outputs.
 #[derive(Clone, Copy)]
@@ -48,46 +37,50 @@ pub(crate) struct Told<'a> {
 
 /// A walk: where it stands, what is left of the outputs, the open group, and what was put off.
 #[derive(Drop)]
-pub(crate) struct Walk<'a, 'c> {
+pub(crate) struct Walk<'a> {
     pub judging: JudgeState<'a>,
     pub outputs: MemoryOutputs<'a>,
     pub told: Option<Told<'a>>,
-    pub claims: Claims<'c>,
+    pub claims: Claims<'a>,
 }
 
-impl<'a> Given<'a> {
-    /// The key of the pair that an entry claims is told by its group's line; its value is that of
-    /// every pair of its record. `None` if there is no such record.
-    #[inline(always)]
-    fn value_of(&self, name: Name) -> Option<Value>
-        ensures { IfSome result (λ v. (t : Triple) → named (known self.now).triples name ≡ Some t → (t.name ≡ name) × (t.value ≡ v)) }
-    {
-        let Name { split, rec, .. } = name;
-        let plan = self.kept.plan();
-        // This shows the plan's size to be at least 1, so that records have distinct names.
-        let _size = plan.size();
-        if !plan.has_record(RecordName { split, rec }) {
-            return None;
-        }
-        let job = self.request.job();
-        if job.counts() {
-            return Some(Value::One);
-        }
-        let record = plan.locate(split, rec);
-        Some(job.value_at(record.file, record.start))
-    }
+/// Where a walk came to.
+#[derive(Clone, Copy)]
+pub(crate) enum Came<'a> {
+    /// It took as many items as it was to take, up to this border.
+    To(Border<'a>),
+    /// It took all items.
+    ToEnd,
+    /// A test failed, or something couldn't be claimed.
+    Nowhere,
 }
 
-impl<'a, 'c> Walk<'a, 'c> {
-    /// A walk before the first partition. Nothing is put off.
-    pub(crate) fn new(alloc: Global, given: &Given<'a>, claims: Claims<'c>) -> Walk<'a, 'c>
-        ensures start { result.judging ≡ start }
+/// A walk that is over: where it began, how many items it was to take, where it came to, how many
+/// entries it named, and what it put off.
+#[derive(Drop)]
+pub(crate) struct Walked<'a> {
+    pub began: Border<'a>,
+    pub most: u64,
+    pub came: Came<'a>,
+    pub named: u64,
+    pub claims: Claims<'a>,
+}
+
+impl<'a> Walk<'a> {
+    /// A walk that begins at a border. Nothing is put off.
+    pub(crate) fn at(
+        alloc: Global,
+        given: &Given<'a>,
+        border: &Border<'a>,
+        claims: Claims<'a>,
+    ) -> Walk<'a>
+        ensures begins { result.judging ≡ at_border border.now }
         ensures claims { result.claims ≡ claims.entry }
         ensures stands { Stands (known given.now) result }
     {
         Walk {
-            judging: JudgeState::new(alloc),
-            outputs: MemoryOutputs::new(given.outputs.outputs()),
+            judging: JudgeState::at(alloc, border),
+            outputs: MemoryOutputs::at(given.outputs.outputs(), border.next, border.from),
             told: None,
             claims,
         }
@@ -110,8 +103,9 @@ impl<'a, 'c> Walk<'a, 'c> {
     fn step(&mut self, given: &Given<'a>, row: &FoundItem<'a>) -> bool
         requires room { HasRoom self.old.judging }
         requires stands { Stands (known given.now) self.old }
-        ensures tested { IsTrue result → (row_tests (row_subject given.now.request.now given.now.outputs.now) self.old.judging row.now ≡ [])
-            × (self.new.judging ≡ row_after (row_subject given.now.request.now given.now.outputs.now) self.old.judging row.now) }
+        ensures tested { let s = row_subject given.now.request.now given.now.outputs.now in
+            IsTrue result → (row_tests s self.old.judging row.now ≡ [])
+            × (self.new.judging ≡ row_after s self.old.judging row.now) }
         ensures stands { IsTrue result → Stands (known given.now) self.new }
         ensures claims { self.new.claims ≡ self.old.claims }
     {
@@ -126,7 +120,9 @@ impl<'a, 'c> Walk<'a, 'c> {
     fn take_entry(&mut self, given: &Given<'a>, name: Name) -> bool
         requires room { HasRoom self.old.judging }
         requires stands { Stands (known given.now) self.old }
-        ensures taken { IsTrue result → TakesItem (known given.now) self.old self.new (Item.Entry name) }
+        ensures windows { self.new.claims.windows ≡ self.old.claims.windows }
+        ensures taken { IsTrue result
+            → TakesItem (known given.now) self.old self.new (Item.Entry name) }
         ensures stands { IsTrue result → Stands (known given.now) self.new }
     {
         let Some(told) = self.told else {
@@ -135,7 +131,7 @@ impl<'a, 'c> Walk<'a, 'c> {
         let Some(value) = given.value_of(name) else {
             return false;
         };
-        let Ok(true) = self.claims.take(name, told.line) else {
+        let Ok(true) = self.claims.take(name, told.line, told.key.len()) else {
             return false;
         };
         let row = FoundItem {
@@ -151,6 +147,7 @@ impl<'a, 'c> Walk<'a, 'c> {
         requires room { HasRoom self.old.judging }
         requires stands { Stands (known given.now) self.old }
         requires more { item ≡ End → ⊥ }
+        ensures windows { self.new.claims.windows ≡ self.old.claims.windows }
         ensures taken { IsTrue result → TakesItem (known given.now) self.old self.new item }
         ensures stands { IsTrue result → Stands (known given.now) self.new }
     {
@@ -171,32 +168,56 @@ impl<'a, 'c> Walk<'a, 'c> {
         }
     }
 
-    /// Takes all items up to the end. Returns how many entries there were, if all tests passed.
-    pub(crate) fn take_all<I: ItemSource>(
+    /// Takes the next `most` items, or all up to the end, as far as all tests are passed.
+    pub(crate) fn take_some<I: ItemSource>(
         &mut self,
         given: &Given<'a>,
         items: &mut I,
+        most: u64,
         progress: &dyn Progress,
-    ) -> Option<u64>
+    ) -> Came<'a>
         requires sound { I.sound items.old }
         requires few { I.most items.old < 2 ^ 63 }
-        requires start { self.old.judging ≡ start }
+        requires begins { (b : Border) × (IsSmall b × (self.old.judging ≡ at_border b)) }
         requires stands { Stands (known given.now) self.old }
-        ensures windows { IfSome result (λ _. self.new.claims.windows ≡ self.old.claims.windows) }
-        ensures walked { IfSome result (Walked (I.gives items.old) (known given.now) (claims_of self.new.claims)) }
+        ensures windows { self.new.claims.windows ≡ self.old.claims.windows }
+        ensures takes { Takes (I.gives items.old) (I.gives items.new) (known given.now)
+            self.old.judging self.new most result }
     {
         let mut pace = Throttle::new(Phase::Judging, given.outputs.len());
-        loop {
+        let mut left = most;
+        while left > 0 {
             pace.reach(self.place(), progress);
             let Ok(item) = items.next_item() else {
-                return None;
+                return Came::Nowhere;
             };
             if let Item::End = item {
-                return Some(self.judging.named());
+                return Came::ToEnd;
             }
             if !self.take(given, item) {
-                return None;
+                return Came::Nowhere;
             }
+            left -= 1;
+        }
+        Came::To(self.judging.border())
+    }
+
+    /// The walk is over.
+    pub(crate) fn end(self, began: Border<'a>, most: u64, came: Came<'a>) -> Walked<'a>
+        ensures { result ≡ record {
+          began = began.entry;
+          most = most;
+          came = came.entry;
+          named = self.entry.judging.named;
+          claims = self.entry.claims;
+        } }
+    {
+        Walked {
+            began,
+            most,
+            came,
+            named: self.judging.named(),
+            claims: self.claims,
         }
     }
 }

@@ -5,18 +5,18 @@
 //!
 //! A window is as large as a processor's cache holds, so no look-up waits for memory. Each record
 //! is mapped once. The claims of a list may come in any order: it is asked only that each is right.
-ghost use Rattle.std.specs.Prelude.{◌≡◌, ℕ, ◌+◌, ◌≤◌, ◌<◌, All, IfSome, IsTrue, length, take};
-ghost use Rattle.std.specs.List.{flat_map};
-ghost use Rattle.mr_index.specs.Windows.{PieceView, Tiles, IsWindow, piece_of};
-ghost use Rattle.mr_check.specs.Claims.{Claim, IsRightWindow, claim_of, claims_of, nth_list};
-ghost use Rattle.mr_check.specs.Claims.{nth_window};
-ghost use Rattle.mr_check.specs.Joined.{joined};
+ghost use Rattle.std.specs.Prelude.{◌≡◌, ℕ, Option, ◌+◌, ◌≤◌, ◌<◌, All, IfSome, IsTrue, length};
+ghost use Rattle.std.specs.Prelude.{slice_index_or};
+ghost use Rattle.mr_index.specs.Windows.{Tiles};
+ghost use Rattle.mr_check.specs.Claims.{claims_of};
 ghost use Rattle.mr_check.specs.Walk.{HoldsFor, known};
-ghost use Rattle.mr_check.specs.Windows.{IsMapped, IsRightIn, AreOf, pairs_in};
+ghost use Rattle.mr_check.specs.Windows.{IsMapped, IsRightIn, AllHold, AreByWindows, IsByWindows};
+ghost use Rattle.mr_check.specs.Windows.{IsTested};
 
-use crate::claims::{Claims, Late, Windows};
+use crate::claims::Late;
+use crate::given::Given;
 use crate::lines::tells;
-use crate::walk::Given;
+use crate::walk::Walked;
 use mr_bytes::{Phase, Progress, Throttle};
 use mr_index::{Piece, Window};
 use std::alloc::Global;
@@ -55,25 +55,22 @@ fn are_right(given: &Given<'_>, piece: &Piece, bits: u32, list: &[Late]) -> bool
 pub(crate) fn test_window(
     alloc: Global,
     given: &Given<'_>,
-    windows: &Windows,
+    walked: &[Walked<'_>],
     w: usize,
-    claims: &[Claims<'_>],
 ) -> Option<u64>
-    requires within { w < length windows.now.list }
-    requires tiles { Tiles given.now.kept.now.cut 0 0 windows.now.list }
-    requires of { AreOf windows.now claims.now }
-    ensures pairs { IfSome result (λ n. n ≡ length (pairs_in given.now (nth_window windows.now.list w))) }
-    ensures right { IfSome result (λ _. All (λ c. IsRightWindow (known given.now).triples
-        (joined (known given.now).outputs) c w) claims.now) }
+    requires within { w < length given.now.windows.now.list }
+    requires by { AreByWindows given.now walked.now }
+    ensures { IfSome result (IsTested given.now walked.now w) }
 {
     // This shows the plan's size to be at least 1, so that records have distinct names.
     let _size = given.kept.plan().size();
-    let window = windows.window(w);
+    let window = given.windows.window(w);
     let Ok(piece) = Piece::map(alloc, given.kept, given.request.job(), window) else {
         return None;
     };
-    for one in claims {
-        if !are_right(given, &piece, windows.bits(), one.of_window(w)) {
+    let bits = given.windows.bits();
+    for walk in walked {
+        if !are_right(given, &piece, bits, walk.claims.of_window(w)) {
             return None;
         }
     }
@@ -81,33 +78,31 @@ pub(crate) fn test_window(
 }
 
 #[inline(always)]
-fn add(sum: u64, more: u64) -> Option<u64>
+pub(crate) fn add(sum: u64, more: u64) -> Option<u64>
     ensures { IfSome result (λ n. n ≡ sum + more) }
 {
     sum.checked_add(more)
 }
 
-/// Tests all claims. Returns how many pairs the input has, if all are right.
-pub(crate) fn test_all(
-    alloc: Global,
+/// How many pairs the input has, if all its windows were tested, and each has as many as stand
+/// here.
+pub(crate) fn sum_pairs(
     given: &Given<'_>,
-    windows: &Windows,
-    claims: &[Claims<'_>],
-    progress: &dyn Progress,
+    walked: &[Walked<'_>],
+    tested: &[Option<u64>],
 ) -> Option<u64>
-    requires tiles { Tiles given.now.kept.now.cut 0 0 windows.now.list }
-    requires of { AreOf windows.now claims.now }
+    requires by { AreByWindows given.now walked.now }
+    requires all { length tested.now ≡ length given.now.windows.now.list }
+    requires tested { (w : ℕ) (d : Option ℕ) → w < length tested.now
+        → IfSome (slice_index_or tested.now w d) (IsTested given.now walked.now w) }
     ensures pairs { IfSome result (λ n. length (known given.now).triples ≡ n) }
-    ensures right { IfSome result (λ _. All (λ c. HoldsFor (known given.now) (claims_of c)) claims.now) }
+    ensures right { IfSome result (λ _. AllHold (known given.now) walked.now) }
 {
     // As in `test_window`.
     let _size = given.kept.plan().size();
-    let count = windows.count();
-    let mut pace = Throttle::new(Phase::Mapping, count as u64);
     let mut sum = 0u64;
-    for w in 0..count {
-        pace.reach(w as u64, progress);
-        let Some(pairs) = test_window(alloc, given, windows, w, claims) else {
+    for w in 0..tested.len() {
+        let Some(pairs) = tested[w] else {
             return None;
         };
         let Some(more) = add(sum, pairs) else {
@@ -116,4 +111,47 @@ pub(crate) fn test_all(
         sum = more;
     }
     Some(sum)
+}
+
+/// Tests what one walk put off (`test_all`).
+pub(crate) fn test_one(
+    alloc: Global,
+    given: &Given<'_>,
+    walked: Walked<'_>,
+    progress: &dyn Progress,
+) -> Option<u64>
+    requires tiles { Tiles given.now.kept.now.cut 0 0 given.now.windows.now.list }
+    requires by { IsByWindows given.now walked }
+    ensures pairs { IfSome result (λ n. length (known given.now).triples ≡ n) }
+    ensures right { IfSome result
+        (λ _. HoldsFor (known given.now) (claims_of walked.entry.claims)) }
+{
+    let all = [walked];
+    test_all(alloc, given, &all, progress)
+}
+
+/// Tests all claims. Returns how many pairs the input has, if all are right.
+pub(crate) fn test_all(
+    alloc: Global,
+    given: &Given<'_>,
+    walked: &[Walked<'_>],
+    progress: &dyn Progress,
+) -> Option<u64>
+    requires by { AreByWindows given.now walked.now }
+    ensures pairs { IfSome result (λ n. length (known given.now).triples ≡ n) }
+    ensures right { IfSome result (λ _. AllHold (known given.now) walked.now) }
+{
+    let count = given.windows.count();
+    let mut pace = Throttle::new(Phase::Mapping, count as u64);
+    let Ok(mut tested) = Vec::with_capacity(alloc, count) else {
+        return None;
+    };
+    for w in 0..count {
+        pace.reach(w as u64, progress);
+        let pairs = test_window(alloc, given, walked, w)?;
+        let Ok(()) = tested.push(Some(pairs)) else {
+            return None;
+        };
+    }
+    sum_pairs(given, walked, &tested)
 }

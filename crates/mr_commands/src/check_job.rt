@@ -83,7 +83,7 @@ fn judge_by<R: Threads + Sync>(
     if threads == 1 {
         return judge_on_one_thread(alloc, case, watch);
     }
-    let options = JudgeOptions::of(threads, &OpenGate, &watch, None);
+    let options = JudgeOptions::of(threads, &OpenGate, &watch);
     judge(rt, alloc, case, &options)
 }
 

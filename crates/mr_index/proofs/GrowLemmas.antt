@@ -1,11 +1,12 @@
 -- A window as it is mapped, record by record.
-use Rattle.std.proofs.Common.{◌≡◌, ℕ, ◌+◌, ◌-◌, ◌<◌, ◌≤◌, ◌^◌, true, false, cond, eqb, List, [], ◌∷◌, ◌++◌, length, get_or, drop, take, slice_range, refl, sym, ◌∙◌, ap, subst, arith, length-append, length-drop}
+use Rattle.std.proofs.Common.{◌≡◌, ℕ, ◌+◌, ◌-◌, ◌<◌, ◌≤◌, ◌^◌, true, false, not, cond, eqb, List, [], ◌∷◌, ◌++◌, length, get_or, drop, take, slice_range, refl, sym, ◌∙◌, ap, subst, arith, length-append, length-drop}
 use Rattle.std.proofs.lemmas.List.{append-nil, drop-drop, get_or-drop, take_more, take_all, take-append-drop}
 use Rattle.std.proofs.lemmas.List.Elements.{All-filter}
 use Rattle.std.proofs.lemmas.List.Sums.{sum_by-append}
 use Rattle.std.proofs.lemmas.Grind.{flat_map-append}
 use Rattle.std.proofs.Math.Seq.{take-add}
 use Rattle.std.specs.List.{flat_map}
+use Rattle.mr_bytes.specs.declared.RecordName.{RecordName}
 use Rattle.mr_bytes.specs.Pairs.{Triple}
 use Rattle.mr_input.specs.Files.{total_size}
 use Rattle.mr_jobs.specs.JobSpec.{JobSpec}
@@ -16,9 +17,11 @@ use Rattle.mr_splits.specs.Kept.{Choice}
 use Rattle.mr_sequential.specs.Emitted.{placed_from, record_triples}
 use Rattle.mr_sequential.proofs.LineLemmas.{Stands, records-stand}
 use Rattle.mr_sequential.specs.Pairs.{kept_pairs, record_pairs}
+use Rattle.mr_index.specs.Index.{mapped_among}
 use Rattle.mr_index.specs.Pairs.{keys_size, Fits}
 use Rattle.mr_index.specs.Building.{numbered, ended, Shows}
 use Rattle.mr_index.specs.Windows.{piece_of}
+use Rattle.mr_index.proofs.JoinLemmas.{mapped-append}
 use Rattle.mr_index.proofs.SizeLemmas.{split-fits}
 use Rattle.mr_index.proofs.WorkLemmas.{left-pairs, left-triples, end-next}
 
@@ -67,6 +70,22 @@ module _ {Y : Type 0} (gives : NamedRecord → List Y) (rs : List NamedRecord) w
       → flat_map gives (slice_range rs from end) ≡ flat_map gives (slice_range rs from at) ++ flat_map gives (slice_range rs at end)
   gives-join from at end before behind =
       ap (flat_map gives) (slice-join rs from at end before behind) ∙ flat_map-append gives (slice_range rs from at) (slice_range rs at end)
+
+module _ (skips : List RecordName) (rs : List NamedRecord) where
+  -- one more record is mapped, unless it is left out
+  pub mapped-more : (from number : ℕ) → from ≤ number → number < length rs
+      → mapped_among skips (slice_range rs from (number + 1)) ≡ mapped_among skips (slice_range rs from number) + cond (is_left_out skips (nth_named rs number).name) 0 1
+  mapped-more from number order h =
+      let r : NamedRecord = nth_named rs number in
+      ap (mapped_among skips) (slice-more rs from number order h)
+      ∙ mapped-append skips (slice_range rs from number) (r ∷ [])
+      ∙ ap (λ (k : ℕ). mapped_among skips (slice_range rs from number) + k)
+      (elim (is_left_out skips r.name) as (λ b. length (cond (not b) (r ∷ []) []) ≡ cond b 0 1) [ true ↦ refl | false ↦ refl ])
+
+  -- no more are mapped before one record than before a later one
+  pub mapped-part : (from at end : ℕ) → from ≤ at → at ≤ end → mapped_among skips (slice_range rs from at) ≤ mapped_among skips (slice_range rs from end)
+  mapped-part from at end before behind =
+      omega (arith, ap (mapped_among skips) (slice-join rs from at end before behind), mapped-append skips (slice_range rs from at) (slice_range rs at end))
 
 -- what a part of the records gives fits, where all does
 pub fits-slice : (gives : NamedRecord → List Emission) (rs : List NamedRecord) (from end : ℕ) → Fits (flat_map gives rs) → Fits (flat_map gives (slice_range rs from end))

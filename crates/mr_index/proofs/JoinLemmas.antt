@@ -1,8 +1,9 @@
 -- Parts, and all of them one after another.
-use Rattle.std.proofs.Common.{◌≡◌, ◌⊎◌, ◌==◌, ℕ, zero, suc, ◌+◌, ◌-◌, ◌<◌, ◌≤◌, Bool, true, false, not, cond, Option, Some, None, List, [], ◌∷◌, ◌++◌, length, get_or, filter, refl, sym, ◌∙◌, ap, subst, arith, inl, inr, length-append}
+use Rattle.std.proofs.Common.{◌≡◌, ◌⊎◌, ◌==◌, ℕ, zero, suc, ◌+◌, ◌-◌, ◌<◌, ◌≤◌, true, false, not, cond, Some, None, List, [], ◌∷◌, ◌++◌, length, get_or, refl, sym, ◌∙◌, ap, subst, arith, inl, inr, length-append}
 use Rattle.std.proofs.lemmas.Bool.{cases_eq, cases_lt, eq-eqb, ne_eqb}
 use Rattle.std.proofs.lemmas.List.{get_or_append_left, length_push}
 use Rattle.std.proofs.Math.Seq.{get_or-append_seam}
+use Rattle.std.proofs.lemmas.List.Elements.{filter-append}
 use Rattle.std.proofs.lemmas.List.Folds.{find-append}
 use Rattle.std.proofs.lemmas.Grind.{flat_map-append}
 use Rattle.std.specs.Prelude.{Result, Ok, Err, OnErr}
@@ -23,17 +24,9 @@ use Rattle.mr_sequential.specs.Emitted.{placed_from, record_triples}
 use Rattle.mr_sequential.specs.Good.{has_name, named}
 use Rattle.mr_index.specs.Index.{triples_of, triples_in, mapped_among, AreParts}
 use Rattle.mr_index.specs.Building.{joined, AreApart}
-use Rattle.mr_index.proofs.NumberedLemmas.{test-other}
+use Rattle.mr_index.proofs.NumberedLemmas.{or-none, test-other}
 
 -- ---- the triples of a split, record by record
-
-filter-append : {X : Type 0} (p : X → Bool) (xs ys : List X) → filter p (xs ++ ys) ≡ filter p xs ++ filter p ys
-filter-append p [] ys = refl
-filter-append {X} p (x ∷ xs) ys =
-    elim (p x) as (λ b. cond b (x ∷ filter p (xs ++ ys)) (filter p (xs ++ ys)) ≡ cond b (x ∷ filter p xs) (filter p xs) ++ filter p ys) [
-      | true ↦ ap (λ l. x ∷ l) (filter-append p xs ys)
-      | false ↦ filter-append p xs ys
-    ]
 
 in-placed : (split : ℕ) (name : RecordName) (place : ℕ) (es : List Emission)
     → triples_in split (placed_from name place es) ≡ cond (name.split == split) (placed_from name place es) []
@@ -123,10 +116,6 @@ named-other split (t ∷ ts) n all other =
     ap (λ b. cond b (Some t) (named ts n)) (test-other n t (λ e. other (sym e ∙ all.0)))
     ∙ named-other split ts n all.1 other
 
-or-none : (o : Option Triple) → option_or o None ≡ o
-or-none None = refl
-or-none (Some t) = refl
-
 -- none, where there is no part of its split
 pub named-past : (low : ℕ) (parts : List (List Triple)) (n : Name) → AreApart low parts → ◌⊎◌ (n.split < low) (low + length parts ≤ n.split) → named (joined parts) n ≡ None
 named-past low [] n apart past = refl
@@ -152,7 +141,7 @@ named-in low (p ∷ parts) n (suc i) apart h is =
 
 -- ---- how many records are mapped, and pairs emitted
 
-mapped-append : (skips : List RecordName) (xs ys : List NamedRecord) → mapped_among skips (xs ++ ys) ≡ mapped_among skips xs + mapped_among skips ys
+pub mapped-append : (skips : List RecordName) (xs ys : List NamedRecord) → mapped_among skips (xs ++ ys) ≡ mapped_among skips xs + mapped_among skips ys
 mapped-append skips xs ys =
     ap length (filter-append (λ (r : NamedRecord). not (is_left_out skips r.name)) xs ys)
     ∙ length-append (kept_records skips xs) (kept_records skips ys)

@@ -3,7 +3,5 @@ pub mod NumberedLemmas
 pub mod WorkLemmas
 pub mod SizeLemmas
 pub mod JoinLemmas
-pub mod ShiftLemmas
 pub mod GrowLemmas
-pub mod PieceLemmas
 pub mod WindowLemmas

@@ -154,7 +154,7 @@ find-other r k (e ∷ es) n other =
     (test-false n t (λ e. other (ap (λ (x : Name). record { split = x.split; rec = x.rec }) e)))
     ∙ find-other r (k + 1) es n other
 
-or-none : (o : Option Triple) → option_or o None ≡ o
+pub or-none : (o : Option Triple) → option_or o None ≡ o
 or-none None = refl
 or-none (Some t) = refl
 

@@ -1,10 +1,11 @@
 -- Pairs that are kept flat.
-use Rattle.std.proofs.Common.{◌≡◌, ℕ, zero, suc, ◌-◌, ◌<◌, ◌≤◌, List, [], ◌∷◌, ◌++◌, length, get_or, take, drop, slice_range, refl, ◌∙◌, ap, arith, length-append, length-drop, length-take-le}
-use Rattle.std.proofs.lemmas.List.{drop-append-le, take-append-le, drop_at, take_all}
+use Rattle.std.proofs.Common.{◌≡◌, ℕ, zero, suc, ◌+◌, ◌-◌, ◌<◌, ◌≤◌, List, [], ◌∷◌, ◌++◌, length, get_or, take, drop, slice_range, refl, sym, ◌∙◌, ap, arith, length-append, length-drop, length-take-le}
+use Rattle.std.proofs.lemmas.List.{drop-append-le, drop-drop, take-append-le, drop_at, take_all}
 use Rattle.mr_bytes.specs.declared.Value.{Value}
 use Rattle.mr_bytes.specs.declared.Value.TheVariants.{One}
 use Rattle.mr_jobs.specs.Emissions.{Emission}
-use Rattle.mr_index.specs.Pairs.{pairs_from, EndsRise, shifted}
+use Rattle.mr_index.specs.Pairs.{pairs_from, pairs_seen, EndsRise, Sound}
+use Rattle.mr_index.specs.declared.pairs.Pairs.{Pairs}
 
 -- a part of a list that has grown behind it
 pub range-more : {X : Type 0} (xs ys : List X) (a b : ℕ) → a ≤ b → b ≤ length xs → slice_range (xs ++ ys) a b ≡ slice_range xs a b
@@ -19,6 +20,13 @@ range-end xs ys =
 
 pub range-size : {X : Type 0} (xs : List X) (a b : ℕ) → a ≤ b → b ≤ length xs → length (slice_range xs a b) ≡ b - a
 range-size xs a b request within = length-take-le (b - a) (drop a xs) (omega (arith, length-drop a xs))
+
+-- a part of what comes behind
+pub range-behind : {X : Type 0} (xs ys : List X) (a b : ℕ) → slice_range (xs ++ ys) (length xs + a) (length xs + b) ≡ slice_range ys a b
+range-behind xs ys a b =
+    let same : length xs + b - (length xs + a) ≡ b - a = omega arith in
+    ap (λ (k : ℕ). take k (drop (length xs + a) (xs ++ ys))) same
+    ∙ ap (take (b - a)) (sym (drop-drop a (length xs) (xs ++ ys)) ∙ ap (drop a) (drop_at xs ys (length xs) refl))
 
 pub rise-request : (at last : ℕ) (ends : List ℕ) → EndsRise at last ends → at ≤ last
 rise-request at last [] r = omega (arith, r)
@@ -40,6 +48,10 @@ length-pairs at keys [] values h = refl
 length-pairs at keys (e ∷ ends) [] h = absurd (omega (arith, h))
 length-pairs at keys (e ∷ ends) (v ∷ values) h = ap suc (length-pairs e keys ends values (omega (arith, h)))
 
+-- each pair that is kept has an end
+pub few-ends : (p : Pairs) (i : ℕ) → Sound p → i < length (pairs_seen p) → i < length p.ends.items
+few-ends p i sound within = omega (arith, within, length-pairs 0 p.keys.items p.ends.items p.values sound.values)
+
 pub pair-at : (at i : ℕ) (keys ends : List ℕ) (values : List Value) → length values ≡ length ends → i < length ends
     → get_or (pairs_from at keys ends values) i ([], One) ≡ (slice_range keys (get_or (at ∷ ends) i 0) (get_or ends i 0), get_or values i One)
 pair-at at i keys [] values h k = absurd (omega arith)
@@ -57,7 +69,3 @@ pairs-more at keys key (e ∷ ends) (w ∷ values) v r h =
     ap (λ (k : List ℕ). (k, w) ∷ pairs_from e (keys ++ key) (ends ++ length (keys ++ key) ∷ []) (values ++ v ∷ []))
     (range-more keys key at e r.0 (rise-request e (length keys) ends r.1))
     ∙ ap (λ (l : List Emission). (slice_range keys at e, w) ∷ l) (pairs-more e keys key ends values v r.1 (omega (arith, h)))
-
-pub length-shifted : (by : ℕ) (es : List ℕ) → length (shifted by es) ≡ length es
-length-shifted by [] = refl
-length-shifted by (e ∷ es) = ap suc (length-shifted by es)

@@ -36,13 +36,6 @@ size-pairs at keys (e ∷ ends) (v ∷ values) r h =
 pub size-seen : (p : Pairs) → Sound p → keys_size (pairs_seen p) ≡ length p.keys.items
 size-seen p s = omega (arith, size-pairs 0 p.keys.items p.ends.items p.values s.rise s.values)
 
--- a part of what fits
-pub fits-part : (es more all : List Emission) → es ++ more ≡ all → Fits all → Fits es
-fits-part es more all whole h = (
-  omega (arith, length-append es more, ap (length {A = Emission}) whole, h.0),
-  omega (arith, sum_by-append key_length es more, ap keys_size whole, h.1),
-)
-
 -- ---- the bytes of all records
 
 bytes_in : List NamedRecord → ℕ

@@ -29,8 +29,7 @@ use Rattle.mr_sequential.proofs.ValueLemmas.{each-found, emitted-valued}
 use Rattle.mr_index.specs.Index.{triples_of}
 use Rattle.mr_index.specs.Windows.{window_records, window_triples, number_of, IsWindow, Follow, Tiles}
 use Rattle.mr_index.specs.declared.window.Window.{Window}
-use Rattle.mr_index.proofs.PairLemmas.{range-more}
-use Rattle.mr_index.proofs.ShiftLemmas.{range-behind}
+use Rattle.mr_index.proofs.PairLemmas.{range-more, range-behind}
 use Rattle.mr_index.proofs.NumberedLemmas.{test-true}
 use Rattle.mr_index.proofs.GrowLemmas.{slice-none, slice-more, slice-join, slice-all, gives-join}
 

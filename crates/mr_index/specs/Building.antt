@@ -6,7 +6,7 @@ use Rattle.mr_bytes.specs.Pairs.{Triple}
 use Rattle.mr_jobs.specs.Emissions.{Emission, nth_emission}
 use Rattle.mr_sequential.specs.Emitted.{placed_from}
 use Rattle.mr_sequential.specs.Good.{named}
-use Rattle.mr_index.specs.Pairs.{EndsRise, filled, shifted}
+use Rattle.mr_index.specs.Pairs.{EndsRise, filled}
 use Rattle.mr_index.specs.Windows.{PieceView}
 
 -- the pairs of the records of a split, from `number` on, each record's from the end of those of the one before
@@ -27,10 +27,9 @@ Tells ends first n pairs at =
     (λ i. (i < length pairs) × (named (numbered n.split first 0 ends pairs) n
     ≡ Some (record { key = (nth_emission pairs i).0; value = (nth_emission pairs i).1; name = n })))
 
--- the number of the pair at a place of a record, whatever the pairs are
-abbrev pub IsPlaceOf : List ℕ → ℕ → ℕ → Option ℕ → Type 0
-IsPlaceOf ends number place at = (first : ℕ) (n : Name) (pairs : List Emission) → EndsRise 0 (length pairs) ends → n.rec ≡ first + number → n.place ≡ place
-    → Tells ends first n pairs at
+-- the number of the pair at a place of a record, whatever the number of the first record is
+abbrev pub IsPlaceOf : List ℕ → List Emission → ℕ → ℕ → Option ℕ → Type 0
+IsPlaceOf ends pairs number place at = (first : ℕ) (n : Name) → n.rec ≡ first + number → n.place ≡ place → Tells ends first n pairs at
 
 -- all parts, one after another
 abbrev pub joined : List (List Triple) → List Triple
@@ -40,12 +39,6 @@ joined parts = flat_map (λ p. p) parts
 abbrev pub AreApart : ℕ → List (List Triple) → Type 0
 AreApart split [] = Unit {0}
 AreApart split (p ∷ parts) = AllByRecursion (λ t. t.name.split ≡ split) p × AreApart (split + 1) parts
-
--- the ends once a piece is appended that begins with the record `from`, behind so many pairs; a piece that emits nothing
--- has none
-abbrev pub appended : ℕ → ℕ → List ℕ → List ℕ → List ℕ
-appended from before [] ends = ends
-appended from before (e ∷ more) ends = filled from before ends ++ shifted before (e ∷ more)
 
 -- tables that show what a piece gives
 pub record Shows (p : PieceView) (ends : List ℕ) (es : List Emission) : Type 0 where

@@ -2,4 +2,3 @@ pub mod Index
 pub mod Pairs
 pub mod Windows
 pub mod Building
-pub mod Pieces

@@ -1,5 +1,5 @@
 -- Of no public promise: keys with their values, kept flat.
-use Rattle.std.specs.Prelude.{◌≡◌, ℕ, ◌+◌, ◌-◌, ◌≤◌, ◌<◌, ◌^◌, List, [], ◌∷◌, ◌++◌, slice_range, length, map, replicate, sum_by}
+use Rattle.std.specs.Prelude.{◌≡◌, ℕ, ◌-◌, ◌≤◌, ◌<◌, ◌^◌, List, [], ◌∷◌, ◌++◌, slice_range, length, replicate, sum_by}
 use Rattle.mr_bytes.specs.declared.Value.{Value}
 use Rattle.mr_jobs.specs.Emissions.{Emission}
 use Rattle.mr_index.specs.declared.pairs.Pairs.{Pairs}
@@ -35,7 +35,3 @@ Fits es = (length es < 2 ^ 32) × (keys_size es < 2 ^ 32)
 -- the ends, with `end` behind them until there are `count`
 abbrev pub filled : ℕ → ℕ → List ℕ → List ℕ
 filled count end ends = ends ++ replicate (count - length ends) end
-
--- ends, each by so much further
-abbrev pub shifted : ℕ → List ℕ → List ℕ
-shifted by ends = map (λ e. by + e) ends

@@ -9,7 +9,8 @@ ghost use Rattle.mr_sequential.specs.Good.{named};
 ghost use Rattle.mr_index.specs.Index.{triples_of, triples_in, mapped_among, AreParts, AreAllParts};
 ghost use Rattle.mr_index.specs.Building.{joined};
 
-use crate::part::{Mapping, PairRef, Part, map_split};
+use crate::part::{Part, map_split};
+use crate::tables::Mapping;
 use mr_bytes::{Name, Progress, RecordName, Unwatched, Value};
 use mr_jobs::Job;
 use mr_splits::{KeptPlan, Plan};
@@ -101,7 +102,8 @@ impl EmissionIndex {
         ensures counted { OnOk result (meter.new.mapped
             ≡ meter.old.mapped + mapped_among skips.now (records_of plan.entry.now)) }
         ensures err { OnErr result ((meter.old.mapped ≤ meter.new.mapped)
-            × (meter.new.mapped ≤ meter.old.mapped + mapped_among skips.now (records_of plan.entry.now))) }
+            × (meter.new.mapped
+            ≤ meter.old.mapped + mapped_among skips.now (records_of plan.entry.now))) }
         ensures lookups { meter.new.lookups ≡ meter.old.lookups }
     {
         let kept = plan.without(alloc, skips)?;
@@ -117,7 +119,8 @@ impl EmissionIndex {
         meter: &mut Meter,
         watch: &dyn Progress,
     ) -> Result<EmissionIndex, AllocError>
-        requires { meter.old.mapped + mapped_among kept.now.skips (records_of kept.now.cut) < 2 ^ 64 }
+        requires { meter.old.mapped
+            + mapped_among kept.now.skips (records_of kept.now.cut) < 2 ^ 64 }
         ensures ok { IfOk result (λ i. i ≡ triples_of job.now kept.now.cut kept.now.skips) }
         ensures counted { OnOk result (meter.new.mapped
             ≡ meter.old.mapped + mapped_among kept.now.skips (records_of kept.now.cut)) }
@@ -154,7 +157,8 @@ impl EmissionIndex {
         split: u32,
     ) -> Result<Part, AllocError>
         requires { split < split_total kept.now.cut.size kept.now.cut.files }
-        ensures { IfOk result (λ r. r ≡ triples_in split (triples_of job.now kept.now.cut kept.now.skips)) }
+        ensures { IfOk result (λ r.
+            r ≡ triples_in split (triples_of job.now kept.now.cut kept.now.skips)) }
     {
         let plan = kept.plan();
         // A split has far fewer records than a u64 counts.
@@ -180,18 +184,6 @@ impl EmissionIndex {
         self.total
     }
 
-    /// The pair of this name, if there is one. It reads nothing of the pair and allocates nothing.
-    pub fn find(&self, name: Name, meter: &mut Meter) -> Option<PairRef<'_>>
-        requires { meter.old.lookups + 1 < 2 ^ 64 }
-        ensures found { MatchOption result (named self.now name ≡ None)
-            (λ f. named self.now name ≡ Some (record { key = f.0; value = f.1; name = name })) }
-        ensures lookups { meter.new.lookups ≡ meter.old.lookups + 1 }
-        ensures mapped { meter.new.mapped ≡ meter.old.mapped }
-    {
-        meter.lookups += 1;
-        self.look_up(name)
-    }
-
     /// The key and the value of the pair of this name, if there is one. It allocates nothing.
     pub fn pair(&self, name: Name, meter: &mut Meter) -> Option<(&[u8], Value)>
         requires { meter.old.lookups + 1 < 2 ^ 64 }
@@ -200,19 +192,10 @@ impl EmissionIndex {
         ensures lookups { meter.new.lookups ≡ meter.old.lookups + 1 }
         ensures mapped { meter.new.mapped ≡ meter.old.mapped }
     {
-        match self.find(name, meter) {
-            None => None,
-            Some(found) => Some(found.get()),
-        }
-    }
-
-    fn look_up(&self, name: Name) -> Option<PairRef<'_>>
-        ensures { MatchOption result (named self.now name ≡ None)
-            (λ f. named self.now name ≡ Some (record { key = f.0; value = f.1; name = name })) }
-    {
+        meter.lookups += 1;
         match self.parts.get(name.split as usize) {
             None => None,
-            Some(part) => part.find(name),
+            Some(part) => part.pair(name),
         }
     }
 }

@@ -1,10 +1,10 @@
 //! Keys with their values, in order, in one buffer: no key takes an allocation of its own.
-ghost use Rattle.std.specs.Prelude.{◌≡◌, ℕ, ◌+◌, ◌≤◌, ◌<◌, ◌^◌, ◌++◌, [], ◌∷◌, All, IfOk, OnOk};
+ghost use Rattle.std.specs.Prelude.{◌≡◌, ℕ, ◌+◌, ◌≤◌, ◌<◌, ◌^◌, ◌++◌, [], ◌∷◌, IfOk, OnOk};
 ghost use Rattle.std.specs.Prelude.{MatchOption, length, slice_index, slice_index_or, slice_range};
 ghost use Rattle.mr_bytes.specs.declared.Value.TheVariants.{One};
 ghost use Rattle.mr_jobs.specs.Emissions.{emissions};
 ghost use Rattle.mr_jobs.specs.Hits.{IsLine};
-ghost use Rattle.mr_index.specs.Pairs.{pairs_seen, filled, shifted, Sound, Fits};
+ghost use Rattle.mr_index.specs.Pairs.{pairs_seen, filled, Sound, Fits};
 
 use mr_bytes::{Value, ValueColumn};
 use mr_jobs::{Emitter, Mapper};
@@ -40,26 +40,6 @@ pub(crate) fn fill(ends: &mut Vec<u32>, count: usize, end: usize) -> Result<(), 
     Ok(())
 }
 
-pub(crate) fn push_shifted(ends: &mut Vec<u32>, more: &[u32], by: usize) -> Result<(), AllocError>
-    requires { All (λ e. by + e < 2 ^ 32) more.now }
-    ensures { OnOk result (ends.new.items ≡ ends.old.items ++ shifted by more.now) }
-{
-    for end in more {
-        push_end(ends, by + *end as usize)?;
-    }
-    Ok(())
-}
-
-fn push_values(values: &mut ValueColumn, more: &ValueColumn) -> Result<(), AllocError>
-    requires { length values.old + length more.now < 2 ^ 64 }
-    ensures { OnOk result (values.new ≡ values.old ++ more.now) }
-{
-    for i in 0..more.len() {
-        values.push(more.get(i))?;
-    }
-    Ok(())
-}
-
 pub(crate) fn start_of(ends: &[u32], i: usize) -> usize
     requires { i ≤ length ends.now }
     ensures { result ≡ slice_index (0 ∷ ends.now) i }
@@ -90,31 +70,6 @@ impl Pairs {
         self.ends.reserve(bytes / 8)
     }
 
-    /// Makes room for so many pairs and bytes of keys in all, and no more.
-    pub(crate) fn reserve_exactly(&mut self, pairs: usize, bytes: usize) -> Result<(), AllocError>
-        requires sound { Sound self.old }
-        ensures sound { OnOk result (Sound self.new) }
-        ensures pairs { OnOk result (pairs_seen self.new ≡ pairs_seen self.old) }
-    {
-        self.keys
-            .reserve_exact(bytes.saturating_sub(self.keys.len()))?;
-        self.ends
-            .reserve_exact(pairs.saturating_sub(self.ends.len()))
-    }
-
-    pub(crate) fn append(&mut self, more: &Pairs) -> Result<(), AllocError>
-        requires sound { Sound self.old }
-        requires more { Sound more.now }
-        requires fits { Fits (pairs_seen self.old ++ pairs_seen more.now) }
-        ensures sound { OnOk result (Sound self.new) }
-        ensures pairs { OnOk result (pairs_seen self.new ≡ pairs_seen self.old ++ pairs_seen more.now) }
-    {
-        push_shifted(&mut self.ends, more.ends.as_slice(), self.keys.len())?;
-        push_values(&mut self.values, &more.values)?;
-        self.keys.extend_from_slice(more.keys.as_slice())?;
-        Ok(())
-    }
-
     pub(crate) fn len(&self) -> usize
         requires { Sound self.now }
         ensures { result ≡ length (pairs_seen self.now) }
@@ -127,9 +82,8 @@ impl Pairs {
         requires within { i < length (pairs_seen self.now) }
         ensures { (result.0.now, result.1) ≡ slice_index_or (pairs_seen self.now) i ([], One) }
     {
-        let start = start_of(self.ends.as_slice(), i);
-        let value = self.values.get(i);
-        (&self.keys[start..self.ends[i] as usize], value)
+        let (keys, start, end) = self.key_at(i);
+        (&keys[start..end], self.values.get(i))
     }
 
     /// The bytes of all keys, and where among them that of pair `i` begins and ends.
@@ -137,8 +91,9 @@ impl Pairs {
     pub(crate) fn key_at(&self, i: usize) -> (&[u8], usize, usize)
         requires sound { Sound self.now }
         requires within { i < length (pairs_seen self.now) }
-        ensures { slice_range result.0.now result.1 result.2
+        ensures key { slice_range result.0.now result.1 result.2
             ≡ (slice_index_or (pairs_seen self.now) i ([], One)).0 }
+        ensures bounds { (result.1 ≤ result.2) × (result.2 ≤ length result.0.now) }
     {
         let start = start_of(self.ends.as_slice(), i);
         (self.keys.as_slice(), start, self.ends[i] as usize)
@@ -148,7 +103,8 @@ impl Pairs {
         requires sound { Sound self.old }
         requires room { length self.old.keys.items + length key.now < 2 ^ 32 }
         ensures sound { OnOk result (Sound self.new) }
-        ensures pairs { OnOk result (pairs_seen self.new ≡ pairs_seen self.old ++ (key.now, value) ∷ []) }
+        ensures pairs { OnOk result (pairs_seen self.new
+            ≡ pairs_seen self.old ++ (key.now, value) ∷ []) }
     {
         self.keys.extend_from_slice(key)?;
         push_end(&mut self.ends, self.keys.len())?;
@@ -189,7 +145,8 @@ impl Pairs {
 }
 
 fn next_pair<'a>(emitter: &mut Emitter<'a>) -> Option<(&'a [u8], Value)>
-    ensures { MatchOption result (emitter.old ≡ []) (λ e. emitter.old ≡ (e.0.now, e.1) ∷ emitter.new) }
+    ensures { MatchOption result (emitter.old ≡ [])
+        (λ e. emitter.old ≡ (e.0.now, e.1) ∷ emitter.new) }
 {
     emitter.next()
 }

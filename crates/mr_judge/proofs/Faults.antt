@@ -7,7 +7,7 @@ use Rattle.std.proofs.lemmas.Bool.{false≢true}
 use Rattle.mr_verdict.specs.declared.answers.No.{No}
 use Rattle.mr_bytes.specs.declared.Name.{Name}
 use Rattle.mr_bytes.specs.Pairs.{Triple}
-use Rattle.mr_verdict.specs.Verdict.{Reached, Subject, passes, first_tests, later_tests, order_tests, with_entry, group_tests, behind_group, first}
+use Rattle.mr_verdict.specs.Verdict.{Reached, passes, first_tests, later_tests, order_tests, with_entry, first}
 use Rattle.mr_verdict.specs.Steps.{Answers}
 
 pub starts_not : (xs ys : List ℕ) → pointwise nat_eq xs (take (length xs) ys) ≡ false → common_prefix_len nat_eq xs ys ≡ length xs → ⊥
@@ -62,11 +62,3 @@ order_suc part p st n key (suc e) h = refl
 pub with_suc : (st : Reached) (t : Triple) (e : ℕ) → 1 ≤ e → with_entry st t e ≡ record st { entry = e + 1; entries = st.entries - 1; before = t.name; values = st.values ++ t.value ∷ []; named = st.named + 1 }
 with_suc st t zero h = absurd (omega arith)
 with_suc st t (suc e) h = refl
-
-pub group_goes_on : (s : Subject) (p : ℕ) (st : Reached) (k : ℕ) → 1 ≤ k → group_tests s p st k ≡ []
-group_goes_on s p st zero h = absurd (omega arith)
-group_goes_on s p st (suc k) h = refl
-
-pub behind_goes_on : (s : Subject) (st : Reached) (k : ℕ) → 1 ≤ k → behind_group s st k ≡ st
-behind_goes_on s st zero h = absurd (omega arith)
-behind_goes_on s st (suc k) h = refl

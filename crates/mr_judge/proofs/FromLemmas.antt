@@ -12,7 +12,6 @@ use Rattle.mr_certform.specs.Streaming.{Agrees, MayCome}
 use Rattle.mr_certform.proofs.Streams.{none_are, come_bytes, come_agrees}
 use Rattle.mr_verdict.specs.declared.answers.No.{No}
 use Rattle.mr_verdict.specs.declared.answers.No.TheVariants.{OutputCount, OutOfMemory, Device as AtRead}
-use Rattle.mr_verdict.specs.declared.answers.Source.{Source}
 use Rattle.mr_verdict.specs.declared.items.JudgeError.{JudgeError}
 use Rattle.mr_verdict.specs.declared.items.JudgeError.TheVariants.{Fault, Device, TooLong, Output, LongOutput}
 use Rattle.mr_verdict.specs.declared.answers.Yes.{Yes}
@@ -21,7 +20,7 @@ use Rattle.mr_verdict.specs.Items.{Coming}
 use Rattle.mr_judge.specs.Kinds.{InKind}
 use Rattle.mr_verdict.specs.Verdict.{start}
 use Rattle.mr_judge.specs.Outputs.{Leaves, Through, AllJudged, IsVerdict}
-use Rattle.mr_judge.specs.From.{Give, AgreeAll, MayGive, IsVerdictFrom, VerdictOfSome, Judged, IsDevice}
+use Rattle.mr_judge.specs.From.{Give, AgreeAll, MayGive, IsVerdictFrom, VerdictOfSome, Judged}
 use Rattle.mr_judge.specs.Reading.{Reading, IsLeft, IsToCome}
 use Rattle.mr_judge.specs.Readers.{StopOfSome, ReportsNoRead}
 use Rattle.mr_verdict.proofs.FaultTruth.{tells_of_bytes}
@@ -87,10 +86,6 @@ no_memory request files given known r e k is f =
     let s = some_may given known k in
     subst (VerdictOfSome request files given known) (sym (is ∙ ap (λ (x : No). Err x) f)) (s.0, (s.1.0, (s.1.1, inl refl)))
 
--- a read failed
-pub no_read : (request : RequestSpec) (files : List (List ℕ)) (given : List (Option (List ℕ))) (known : Option (List ℕ)) (source : Source) → IfSome known AreBytes → VerdictOfSome request files given known (Err (AtRead source))
-no_read request files given known source k = let s = some_may given known k in (s.0, (s.1.0, (s.1.1, tt)))
-
 -- there are more readers than partitions, or fewer
 pub other_count : {R : Type 0} (f : R → Option (List ℕ)) (xs : List R) (request : RequestSpec) (files : List (List ℕ)) (known : Option (List ℕ)) → IfSome known AreBytes → (length xs ≡ request.parts → ⊥) → VerdictOfSome request files (map f xs) known (Err OutputCount)
 other_count f xs request files known k other =
@@ -125,14 +120,6 @@ no_read_told request files given known (Ok y) h = tt
 no_read_told request files given known (Err stop) (outs, (bytes, (m, v))) = no_read_in request files outs bytes stop m.are_bytes v
 
 -- ---- the answer
-
-pub fault_told : (request : RequestSpec) (files outs : List (List ℕ)) (bytes : List ℕ) (e : No) → IsVerdict request files outs bytes (Err (Fault e)) → IsVerdictFrom request files outs bytes (Err e)
-fault_told request files outs bytes (AtRead s) h = tt
-fault_told request files outs bytes e h = h
-
-pub fault_device : (outs : List ℕ) (cert : ℕ) (e : No) → ReportsNoRead (Fault e) → IsDevice outs outs cert cert (Err e)
-fault_device outs cert (AtRead s) h = absurd h
-fault_device outs cert e h = (refl, refl)
 
 pub verdict_told : (request : RequestSpec) (files : List (List ℕ)) (given : List (Option (List ℕ))) (known : Option (List ℕ)) (answer : Result Yes JudgeError) (r : Result Yes No)
     → ((o : RequestSpec) (fs outs : List (List ℕ)) (bytes : List ℕ) → IsVerdict o fs outs bytes answer → IsVerdictFrom o fs outs bytes r) → StopOfSome request files given known answer → VerdictOfSome request files given known r

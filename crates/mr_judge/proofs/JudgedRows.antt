@@ -11,9 +11,8 @@ use Rattle.mr_verdict.specs.Verdict.{Reached, with_entry, group_tests, behind_gr
 use Rattle.mr_verdict.specs.Steps.{Ground, subject_with}
 use Rattle.mr_judge.specs.declared.border.FoundItem.{FoundItem}
 use Rattle.mr_verdict.specs.declared.items.JudgeError.{JudgeError}
-use Rattle.mr_judge.specs.Blocks.{IsFound}
 use Rattle.mr_judge.specs.Outputs.{Ahead, Tested}
-use Rattle.mr_judge.specs.Rows.{row_subject, brought, item_tests, item_after, row_tests, row_after}
+use Rattle.mr_judge.specs.Rows.{IsFound, row_subject, brought, item_tests, item_after, row_tests, row_after}
 use Rattle.mr_judge.proofs.OutputLemmas.{tested_as}
 
 mapped : {A : Type 0} (f : A → Triple) (o : Option A) (t : Option Triple) → MatchOption o (t ≡ None) (λ p. t ≡ Some (f p)) → option_map f o ≡ t
@@ -64,9 +63,9 @@ pub row_after_is : (b : Ground) (outs : List (List ℕ)) (st : Reached) (row : F
 row_after_is b outs st row found = item_after_is b outs st row row.item found refl
 
 -- what is said of a row is said of its item
-pub tested_by_row : (b : Ground) (old new : Ahead) (st next : Reached) (row : FoundItem) (r : Result (Unit {0}) JudgeError) → IsFound b.triples row → (row.item ≡ End → ⊥)
+pub tested_by_row : (b : Ground) (old new : Ahead) (st next : Reached) (row : FoundItem) (i : Item) (r : Result (Unit {0}) JudgeError) → IsFound b.triples row → row.item ≡ i → (i ≡ End → ⊥)
     → Tested old new st next (λ outs. row_tests (row_subject b.request outs) st row) (λ outs. row_after (row_subject b.request outs) st row) r
-    → Tested old new st next (λ outs. tests (subject_with b outs) st row.item) (λ outs. after (subject_with b outs) st row.item) r
-tested_by_row b old new st next row r found other told =
-    tested_as old new st next (λ outs. row_tests (row_subject b.request outs) st row) (λ outs. tests (subject_with b outs) st row.item) (λ outs. row_after (row_subject b.request outs) st row) (λ outs. after (subject_with b outs) st row.item) r
-    (λ outs. row_tests_are b outs st row found other) (λ outs. row_after_is b outs st row found) told
+    → Tested old new st next (λ outs. tests (subject_with b outs) st i) (λ outs. after (subject_with b outs) st i) r
+tested_by_row b old new st next row i r found is other told =
+    tested_as old new st next (λ outs. row_tests (row_subject b.request outs) st row) (λ outs. tests (subject_with b outs) st i) (λ outs. row_after (row_subject b.request outs) st row) (λ outs. after (subject_with b outs) st i) r
+    (λ outs. row_tests_are b outs st row found (λ e. other (sym is ∙ e)) ∙ ap (tests (subject_with b outs) st) is) (λ outs. row_after_is b outs st row found ∙ ap (after (subject_with b outs) st) is) told

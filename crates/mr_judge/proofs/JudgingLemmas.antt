@@ -1,129 +1,140 @@
--- The judge's loop over blocks, whatever walks the items.
-use Rattle.std.proofs.Common.{◌≡◌, ℕ, zero, suc, ◌+◌, ◌≤◌, true, false, Option, Some, None, Ok, Err, List, [], ◌∷◌, length, refl, ap, sym, subst, ◌∙◌, inl, inr, arith}
+-- The plain walk's loop, whatever walks the items and holds the outputs.
+use Rattle.std.proofs.Common.{◌≡◌, ℕ, true, ◌+◌, Some, Ok, Err, List, [], ◌∷◌, refl, ap, sym, subst, ◌∙◌, inr, arith}
+use Rattle.std.specs.Prelude.{Result}
 use Rattle.mr_certform.specs.declared.grammar_state.Item.{Item}
-use Rattle.mr_certform.specs.declared.grammar_state.Item.TheVariants.{Magic, End}
+use Rattle.mr_certform.specs.declared.grammar_state.Item.TheVariants.{End}
 use Rattle.mr_verdict.specs.declared.answers.No.{No}
-use Rattle.mr_verdict.specs.declared.answers.No.TheVariants.{Malformed}
+use Rattle.mr_verdict.specs.declared.answers.No.TheVariants.{Malformed as malformed}
+use Rattle.mr_verdict.specs.declared.items.ItemError.{ItemError}
+use Rattle.mr_verdict.specs.declared.items.ItemError.TheVariants.{Malformed}
 use Rattle.mr_verdict.specs.declared.items.JudgeError.{JudgeError}
-use Rattle.mr_verdict.specs.declared.items.JudgeError.TheVariants.{Fault, Device, TooLong, Output, LongOutput}
-use Rattle.mr_verdict.specs.Verdict.{Reached, Subject, start, part_faults, first, entries_in}
-use Rattle.mr_verdict.specs.Steps.{Answers, Room}
-use Rattle.mr_verdict.specs.Items.{Coming, CanCome}
-use Rattle.mr_judge.specs.Blocks.{onto, has_end, Read, IsHalted, IsTold, Judges, GoesOn, Judged}
-use Rattle.mr_judge.proofs.Faults.{told_is}
-use Rattle.mr_judge.proofs.BlockLemmas.{Reads, ended_counts}
+use Rattle.mr_verdict.specs.declared.items.JudgeError.TheVariants.{Fault}
+use Rattle.mr_verdict.specs.Verdict.{Reached, Subject, start, tests, after, part_faults, first, entries_in}
+use Rattle.mr_verdict.specs.Steps.{Answers, Ground, Room, opens, subject_with}
+use Rattle.mr_verdict.specs.Items.{Coming, CanCome, Each, Took, stop_of}
+use Rattle.mr_judge.specs.Outputs.{Ahead, CanCome as CanComeAhead, Fits, Onward, Through, Tested, IsTold, Looked, Judges, begins}
+use Rattle.mr_judge.proofs.Faults.{first_more, told_left, told_is}
+use Rattle.mr_judge.proofs.PartLemmas.{faults_step, entries_more, named_after, room_after}
+use Rattle.mr_judge.proofs.OutputLemmas.{onward_same, onward_then, onward_through, through_as, through_all, any_of, opens_first}
 
--- items were judged, and those that may still come have the same first fault: how far the judge has come, how many names
--- were looked up at first and until now
-abbrev pub Judging : Coming → Coming → Subject → Reached → ℕ → ℕ → Type 0
-Judging old now s st before looked =
-    (is : List Item) (at : ℕ) → now is at → (js : List Item)
-    × (old js at × ((first (part_faults s at st is) ≡ first (part_faults s at start js)) × ((st.named + entries_in is ≡ entries_in js) × (looked + entries_in is ≡ before + entries_in js))))
+-- ---- the item that comes
 
-pub judging_first : (old : Coming) (s : Subject) (st : Reached) (n : ℕ) → st ≡ start → Judging old old s st n n
-judging_first old s st n e is at there =
-    (is, (there, (ap (λ w. first (part_faults s at w is)) e, (omega (arith, ap (λ (w : Reached). w.named) e), refl))))
+-- others may come behind it
+came : (now next : Coming) (i : Item) → Took now next (Ok i) → CanCome next → (is : List Item) × ((at : ℕ) × now (i ∷ is) at)
+came now next End took (is, (at, there)) = let t = took is at there in ([], (at, subst (λ w. now w at) t.1 t.0))
+came now next i took (is, (at, there)) = (is, (at, took is at there))
 
-pub read_reads : (now next : Coming) (items : List Item) (o : Option ℕ) → Read now next items (Ok o) → Reads now next items
-read_reads now next items None h = h
-read_reads now next items (Some place) h = λ is at there. (h is at there).0
+came_more : (now next : Coming) (i : Item) → Took now next (Ok i) → (i ≡ End → ⊥) → (is : List Item) (at : ℕ) → next is at → now (i ∷ is) at
+came_more now next End took other is at there = absurd (other refl)
+came_more now next i took other is at there = took is at there
 
-halted_told : (fs : List No) (n : ℕ) (e : JudgeError) → IsHalted e → IsTold fs n (Err e)
-halted_told fs n (Fault f) h = inl h
-halted_told fs n Device h = tt
-halted_told fs n TooLong h = tt
-halted_told fs n (Output p) h = tt
-halted_told fs n LongOutput h = tt
+-- where a partition begins next, it does so, unless it is the end
+pub opens_next : (now next : Coming) (i : Item) → Each now begins → Took now next (Ok i) → CanCome next → (i ≡ End → ⊥) → opens i ≡ true
+opens_next now next i each took some other =
+    let t = came now next i took some in
+    opens_first i t.0 (each (i ∷ t.0) t.1.0 t.1.1) other
 
--- a block can't be had
-pub judges_halted : (old now : Coming) (s : Subject) (st : Reached) (before looked : ℕ) (e : JudgeError) → Judging old now s st before looked → CanCome now → IsHalted e → before ≤ looked → Judges old s before looked (Err e)
-judges_halted old now s st before looked e judging some h low =
-    let t = judging some.0 some.1.0 some.1.1 in
-    (t.0, (some.1.0, (t.1.0, (halted_told (part_faults s some.1.0 start t.0) (entries_in t.0) e h, (low, omega (arith, t.1.1.1.1))))))
+-- its fault is the first of all
+fault_here : (s : Subject) (at : ℕ) (st : Reached) (i : Item) (is : List Item) (f : No) → Answers (tests s st i) f → Answers (part_faults s at st (i ∷ is)) f
+fault_here s at st End is f told = told
+fault_here s at st i is f told = told_left (tests s st i) (part_faults s at (after s st i) is) f told
 
--- a block was read, and its names can't be looked up
-pub judges_read : (old now next : Coming) (s : Subject) (st : Reached) (before looked behind : ℕ) (items : List Item) (e : JudgeError) → Judging old now s st before looked → Reads now next items → CanCome next → IsHalted e
-    → before ≤ looked → looked ≤ behind → behind ≤ looked + entries_in items → Judges old s before behind (Err e)
-judges_read old now next s st before looked behind items e judging reads some h low more most =
-    let r = reads some.0 some.1.0 some.1.1 in
-    let t = judging (onto items some.0) some.1.0 r.0 in
-    (t.0, (some.1.0, (t.1.0, (halted_told (part_faults s some.1.0 start t.0) (entries_in t.0) e h, (omega (arith, low, more), omega (arith, most, r.1, t.1.1.1.1))))))
+-- ---- answers from here on
 
--- an item of the block has a fault
-pub judges_fault : (old now next : Coming) (s : Subject) (st new : Reached) (before looked behind : ℕ) (items : List Item) (e : No) → Judging old now s st before looked → Reads now next items → CanCome next
-    → before ≤ looked → behind ≡ looked + entries_in items → ((at : ℕ) (js : List Item) → Judged s at st new items js (Err e)) → Judges old s before behind (Err (Fault e))
-judges_fault old now next s st new before looked behind items e judging reads some low all judged =
-    let at = some.1.0 in
-    let r = reads some.0 at some.1.1 in
-    let t = judging (onto items some.0) at r.0 in
-    let told : Answers (part_faults s at start t.0) e = told_is (part_faults s at st (onto items some.0)) (part_faults s at start t.0) e (sym t.1.1.0) (judged at some.0) in
-    (t.0, (at, (t.1.0, (told, (omega (arith, low, all), omega (arith, all, r.1, t.1.1.1.1))))))
+-- an answer on items that may come, judged from here on, and how many names were looked up before and behind
+abbrev pub JudgesOn : Coming → Subject → Reached → ℕ → ℕ → Result ℕ JudgeError → Type 0
+JudgesOn now s st before behind answer =
+    (is : List Item) × ((at : ℕ) × (now is at × (IsTold (part_faults s at st is) (st.named + entries_in is) answer × Looked is before behind)))
 
--- the block has the end
-pub judges_ended : (old now next : Coming) (s : Subject) (st new : Reached) (before looked behind : ℕ) (items : List Item) → Judging old now s st before looked → Reads now next items → CanCome next
-    → before ≤ looked → behind ≡ looked + entries_in items → ((at : ℕ) (js : List Item) → Judged s at st new items js (Ok true)) → Judges old s before behind (Ok new.named)
-judges_ended old now next s st new before looked behind items judging reads some low all judged =
-    let at = some.1.0 in
-    let r = reads some.0 at some.1.1 in
-    let t = judging (onto items some.0) at r.0 in
-    let j = judged at some.0 in
-    (t.0, (at, (t.1.0, ((sym t.1.1.0 ∙ j.0, omega (arith, j.1, t.1.1.1.0)), (omega (arith, low, all), omega (arith, all, r.1, t.1.1.1.1))))))
+pub no_item : (now next : Coming) (s : Subject) (st : Reached) (n : ℕ) (h : ItemError) → Took now next (Err h) → CanCome next → JudgesOn now s st n n (Err (stop_of h))
+no_item now next s st n (Malformed place) took (is, (at, there)) =
+    let t = took is at there in
+    (is, (at, (t.0, (inr (ap (λ w. first (part_faults s at st w)) t.1 ∙ ap (λ k. Some (malformed k)) t.2), (omega arith, omega arith)))))
+no_item now next s st n h took (is, (at, there)) = (is, (at, (took is at there, (tt, (omega arith, omega arith)))))
 
--- and then each entry was looked up
-pub ended_all : (now next : Coming) (s : Subject) (st new : Reached) (before looked behind : ℕ) (items : List Item) → Reads now next items → CanCome next
-    → looked ≡ before + st.named → behind ≡ looked + entries_in items → ((at : ℕ) (js : List Item) → Judged s at st new items js (Ok true)) → behind ≡ before + new.named
-ended_all now next s st new before looked behind items reads some named all judged =
-    let at = some.1.0 in
-    let r = reads some.0 at some.1.1 in
-    let j = judged at some.0 in
-    let counts = ended_counts items some.0 (onto items some.0) st.named new.named refl r.1 j.1 (judged at []).1 in
-    omega (arith, named, all, counts, j.1)
+item_told : (now next : Coming) (s : Subject) (st : Reached) (n behind : ℕ) (i : Item) (e : JudgeError) → Took now next (Ok i) → CanCome next → behind ≡ n + entries_in (i ∷ [])
+    → ((at : ℕ) (is : List Item) → IsTold (part_faults s at st (i ∷ is)) (st.named + entries_in (i ∷ is)) (Err e)) → JudgesOn now s st n behind (Err e)
+item_told now next s st n behind i e took some all told =
+    let t = came now next i took some in
+    (i ∷ t.0, (t.1.0, (t.1.1, (told t.1.0 t.0, (omega (arith, all), omega (arith, all, entries_more i t.0))))))
 
--- behind the block no item stands
-pub judges_stopped : (old now next : Coming) (s : Subject) (st new : Reached) (before looked behind place : ℕ) (items : List Item) → Judging old now s st before looked → Read now next items (Ok (Some place)) → CanCome next
-    → before ≤ looked → behind ≡ looked + entries_in items → ((at : ℕ) (js : List Item) → Judged s at st new items js (Ok false)) → Judges old s before behind (Err (Fault (Malformed place)))
-judges_stopped old now next s st new before looked behind place items judging read some low all judged =
-    let at = some.1.0 in
-    let h = read some.0 at some.1.1 in
-    let r = h.0 in
-    let t = judging (onto items some.0) at r.0 in
-    let goes : GoesOn s at st new items some.0 = judged at some.0 in
-    let here : first (part_faults s at new some.0) ≡ Some (Malformed place) = ap (λ w. first (part_faults s at new w)) h.1.0 ∙ ap (λ n. Some (Malformed n)) h.1.1 in
-    (t.0, (at, (t.1.0, (inr (sym t.1.1.0 ∙ (sym goes.same ∙ here)), (omega (arith, low, all), omega (arith, all, r.1, t.1.1.1.1))))))
+-- a test fails
+pub item_fault : (left new : Ahead) (now next : Coming) (b : Ground) (st last : Reached) (f : List (List ℕ) → Reached) (n behind : ℕ) (i : Item) (e : JudgeError) → CanComeAhead left → Took now next (Ok i) → CanCome next → behind ≡ n + entries_in (i ∷ [])
+    → Tested left new st last (λ outs. tests (subject_with b outs) st i) f (Err e) → Through left st (λ outs. JudgesOn now (subject_with b outs) st n behind (Err e))
+item_fault left new now next b st last f n behind i (Fault g) some took given all told =
+    through_as left st (λ outs. Answers (tests (subject_with b outs) st i) g) (λ outs. JudgesOn now (subject_with b outs) st n behind (Err (Fault g))) told
+    (λ outs h. item_told now next (subject_with b outs) st n behind i (Fault g) took given all (λ at is. fault_here (subject_with b outs) at st i is g h))
+item_fault left new now next b st last f n behind i e some took given all told =
+    through_all left st (λ outs. JudgesOn now (subject_with b outs) st n behind (Err e)) some (λ outs. item_told now next (subject_with b outs) st n behind i e took given all (λ at is. tt))
 
--- the block stood
-pub judging_next : (old now next : Coming) (s : Subject) (st new : Reached) (before looked behind : ℕ) (items : List Item) → Judging old now s st before looked → Reads now next items
-    → behind ≡ looked + entries_in items → ((at : ℕ) (js : List Item) → Judged s at st new items js (Ok false)) → Judging old next s new before behind
-judging_next old now next s st new before looked behind items judging reads all judged is at there =
-    let r = reads is at there in
-    let t = judging (onto items is) at r.0 in
-    let goes : GoesOn s at st new items is = judged at is in
-    (t.0, (t.1.0, (goes.same ∙ t.1.1.0, (omega (arith, goes.named, t.1.1.1.0), omega (arith, all, r.1, t.1.1.1.1)))))
+-- all tests passed, and it is the end
+pub item_ended : (now next : Coming) (s : Subject) (st : Reached) (n : ℕ) → Took now next (Ok End) → CanCome next → tests s st End ≡ [] → JudgesOn now s st n n (Ok st.named)
+item_ended now next s st n took (is, (at, there)) none =
+    let t = took is at there in
+    (is, (at, (t.0, ((ap (λ w. first (part_faults s at st w)) t.1 ∙ ap first none, omega (arith, ap entries_in t.1)), (omega arith, omega arith)))))
 
--- ---- room
+-- ---- the loop
 
-abbrev blanks : ℕ → List Item
-blanks zero = []
-blanks (suc n) = Magic ∷ blanks n
+-- the items so far stood: those that may still come have the same first fault as all
+abbrev pub Judging : Coming → Coming → Subject → Reached → Type 0
+Judging old now s st =
+    (is : List Item) (at : ℕ) → now is at → (js : List Item) × (old js at × ((first (part_faults s at st is) ≡ first (part_faults s at start js)) × (st.named + entries_in is ≡ entries_in js)))
 
-blanks_long : (n : ℕ) → length (blanks n) ≡ n
-blanks_long zero = refl
-blanks_long (suc n) = omega (arith, blanks_long n)
+-- of outputs that may be
+abbrev pub Going : Ahead → Ahead → Coming → Coming → Ground → Reached → Type 0
+Going ahead left old now b st = Onward ahead left start st (λ outs. Judging old now (subject_with b outs) st)
 
--- what stood has no end
-open_of : (is : List Item) → length (onto is (Magic ∷ [])) ≡ length is + 1 → has_end is ≡ false
-open_of [] h = refl
-open_of (End ∷ is) h = absurd (omega (arith, h))
-open_of (i ∷ is) h = open_of is (omega (arith, h))
+pub going_first : (ahead : Ahead) (old : Coming) (b : Ground) (st : Reached) → st ≡ start → Going ahead ahead old old b st
+going_first ahead old b st e =
+    onward_same ahead start st (λ outs. Judging old old (subject_with b outs) st) e
+    (λ outs is at there. (is, (there, (ap (λ w. first (part_faults (subject_with b outs) at w is)) e, omega (arith, ap (λ (w : Reached). w.named) e)))))
 
-pub stood_open : (s : Subject) (st new : Reached) (items : List Item) → ((at : ℕ) (js : List Item) → Judged s at st new items js (Ok false)) → has_end items ≡ false
-stood_open s st new items judged = let goes : GoesOn s 0 st new items (Magic ∷ []) = judged 0 (Magic ∷ []) in open_of items (omega (arith, goes.fewer))
+judging_next : (old now next : Coming) (s : Subject) (st : Reached) (i : Item) → Judging old now s st → Took now next (Ok i) → (i ≡ End → ⊥) → tests s st i ≡ [] → Judging old next s (after s st i)
+judging_next old now next s st i judging took other none is at there =
+    let t = judging (i ∷ is) at (came_more now next i took other is at there) in
+    let same = ap first (faults_step s at st i is other) ∙ first_more (tests s st i) (part_faults s at (after s st i) is) none in
+    (t.0, (t.1.0, (sym same ∙ t.1.1.0, omega (arith, named_after s st i none, entries_more i is, t.1.1.1))))
 
-room_less : (st : Reached) (n m top : ℕ) → n ≤ m → Room st m top → Room st n top
-room_less st n m top h r = record { next = omega (arith, h); group = omega (arith, h); entry = omega (arith, h); named = omega (arith, h); values = omega (arith, h) }
+-- one more stood
+pub going_next : (ahead left new : Ahead) (old now next : Coming) (b : Ground) (st last : Reached) (i : Item) (u : Unit {0}) → Going ahead left old now b st → Took now next (Ok i) → (i ≡ End → ⊥)
+    → Tested left new st last (λ outs. tests (subject_with b outs) st i) (λ outs. after (subject_with b outs) st i) (Ok u) → Going ahead new old next b last
+going_next ahead left new old now next b st last i u going took other told =
+    onward_then ahead left new start st last (λ outs. Judging old now (subject_with b outs) st) _ (λ outs. Judging old next (subject_with b outs) last) going told
+    (λ outs judging done. subst (λ (w : Reached). Judging old next (subject_with b outs) w) (sym done.1) (judging_next old now next (subject_with b outs) st i judging took other done.0))
 
-pub room_next : (s : Subject) (st new : Reached) (items : List Item) (more rest top : ℕ) → ((at : ℕ) (js : List Item) → Judged s at st new items js (Ok false)) → length items + rest ≤ more → Room st more top → Room new rest top
-room_next s st new items more rest top judged h r =
-    let goes : GoesOn s 0 st new items (blanks rest) = judged 0 (blanks rest) in
-    let long = blanks_long rest in
-    subst (λ n. Room new n top) long (goes.room top (room_less st (length items + length (blanks rest)) more top (omega (arith, h, long)) r))
+-- and so it counts
+pub counts_next : (left new : Ahead) (b : Ground) (st last : Reached) (i : Item) (u : Unit {0}) → CanComeAhead new → Fits left st
+    → Tested left new st last (λ outs. tests (subject_with b outs) st i) (λ outs. after (subject_with b outs) st i) (Ok u)
+    → (last.named ≡ st.named + entries_in (i ∷ [])) × ((more all : ℕ) → Room st (more + 1) all → Room last more all)
+counts_next left new b st last i u some fits told =
+    let a = any_of left new st last (λ outs. (tests (subject_with b outs) st i ≡ []) × (last ≡ after (subject_with b outs) st i)) told some fits in
+    let s = subject_with b a.0 in
+    (ap (λ (w : Reached). w.named) a.1.1 ∙ named_after s st i a.1.0, λ more all r. subst (λ (w : Reached). Room w more all) (sym a.1.1) (room_after s st i more all r))
+
+told_as : (fs gs : List No) (n m : ℕ) (r : Result ℕ JudgeError) → first gs ≡ first fs → n ≡ m → IsTold fs n r → IsTold gs m r
+told_as fs gs n m (Ok k) same count h = (same ∙ h.0, h.1 ∙ count)
+told_as fs gs n m (Err (Fault e)) same count h = told_is fs gs e same h
+told_as fs gs n m (Err e) same count h = tt
+
+-- an answer from here on is one on all
+pub judges_all : (ahead left : Ahead) (old now : Coming) (b : Ground) (st : Reached) (before looked behind : ℕ) (r : Result ℕ JudgeError) → Going ahead left old now b st → looked ≡ before + st.named
+    → Through left st (λ outs. JudgesOn now (subject_with b outs) st looked behind r) → Through ahead start (λ outs. Judges old (subject_with b outs) before behind r)
+judges_all ahead left old now b st before looked behind r going all told =
+    onward_through ahead left start st (λ outs. Judging old now (subject_with b outs) st) (λ outs. JudgesOn now (subject_with b outs) st looked behind r) (λ outs. Judges old (subject_with b outs) before behind r) going told
+    (λ outs judging on. (let s = subject_with b outs in
+    let is : List Item = on.0 in
+    let at = on.1.0 in
+    let t = judging is at on.1.1.0 in
+    let h = on.1.1.1 in (
+      t.0,
+      (
+        at,
+        (
+          t.1.0,
+          (
+            told_as (part_faults s at st is) (part_faults s at start t.0) (st.named + entries_in is) (entries_in t.0) r (sym t.1.1.0) t.1.1.1 h.0,
+            (omega (arith, all, h.1.0), omega (arith, all, h.1.1, t.1.1.1)),
+          ),
+        ),
+      ),
+    )))

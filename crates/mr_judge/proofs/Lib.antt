@@ -1,6 +1,4 @@
 pub mod Agreements
-pub mod BlockLemmas
-pub mod BlocksJudged
 pub mod Faults
 mod FromLemmas
 pub mod GrammarLemmas
@@ -14,5 +12,4 @@ pub mod OutputLemmas
 pub mod PartLemmas
 mod ReadingLemmas
 pub mod RestLemmas
-pub mod RowLemmas
 pub mod VerdictLemmas

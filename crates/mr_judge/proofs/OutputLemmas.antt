@@ -19,11 +19,10 @@ use Rattle.mr_verdict.specs.declared.items.JudgeError.{JudgeError}
 use Rattle.mr_verdict.specs.declared.items.JudgeError.TheVariants.{Fault, Device, TooLong, Output, LongOutput}
 use Rattle.mr_verdict.specs.Verdict.{Reached, passes, end_tests, text_tests, order_tests, with_entry, group_tests, behind_group, entry_tests, after_entry}
 use Rattle.mr_verdict.specs.Steps.{Answers, Ground, subject_with}
-use Rattle.mr_judge.specs.Blocks.{onto}
 use Rattle.mr_sequential.specs.Rules.{rules_of}
 use Rattle.mr_verdict.specs.Steps.{opens}
-use Rattle.mr_judge.specs.Outputs.{Ahead, CanCome, Leaves, Fits, Onward, Through, Tested, Opens, TextTold, EndTold, Halts, HaltsItems, begins}
-use Rattle.mr_judge.proofs.Faults.{fine, failed, told_left, told_right, both_fine, group_goes_on, behind_goes_on}
+use Rattle.mr_judge.specs.Outputs.{Ahead, CanCome, Leaves, Fits, Onward, Through, Tested, Opens, TextTold, EndTold, begins}
+use Rattle.mr_judge.proofs.Faults.{fine, failed, told_left, told_right, both_fine}
 
 -- ---- going on
 
@@ -40,12 +39,6 @@ pub onward_through : (a b : Ahead) (st mid : Reached) (P Q R : List (List ℕ) �
 onward_through a b st mid P Q R f (r, (l, (g, h))) both =
     let o = f r l g in
     (o.0, (o.1.0, (o.1.1.0, λ outs w. (let p = o.1.1.1 outs w in both outs p.1 (h outs p.0)))))
-
-pub onward_ends : (a b : Ahead) (st mid : Reached) (P R : List (List ℕ) → Type 0) → Onward a b st mid P → CanCome b → ((outs : List (List ℕ)) → P outs → R outs) → Through a st R
-onward_ends a b st mid P R f (r, (l, g)) more = let o = f r l g in (o.0, (o.1.0, (o.1.1.0, λ outs w. more outs (o.1.1.1 outs w).1)))
-
-pub onward_as : (a b : Ahead) (st mid : Reached) (P R : List (List ℕ) → Type 0) → Onward a b st mid P → ((outs : List (List ℕ)) → P outs → R outs) → Onward a b st mid R
-onward_as a b st mid P R f more rest later g = let o = f rest later g in (o.0, (o.1.0, (o.1.1.0, λ outs w. (let p = o.1.1.1 outs w in (p.0, more outs p.1)))))
 
 pub through_as : (a : Ahead) (st : Reached) (P R : List (List ℕ) → Type 0) → Through a st P → ((outs : List (List ℕ)) → P outs → R outs) → Through a st R
 through_as a st P R (r, (l, (g, h))) more = (r, (l, (g, λ outs w. more outs (h outs w))))
@@ -230,10 +223,6 @@ group_fine b old mid new st next p place at groups text u v here from is stood t
 
 -- ---- an entry
 
-pub goes_on : (b : Ground) (old : Ahead) (st next : Reached) (p k : ℕ) → Onward old old st st (λ outs. Unit {0}) → next ≡ st → (1 ≤ k) → Onward old old st next (λ outs. (group_tests (subject_with b outs) p st k ≡ []) × (next ≡ behind_group (subject_with b outs) st k))
-goes_on b old st next p k go e h rest later g =
-    (rest, (later, (g, λ outs w. (subst (λ (m : Reached). Leaves m outs rest later) (sym e) w, (group_goes_on (subject_with b outs) p st k h, e ∙ sym (behind_goes_on (subject_with b outs) st k h))))))
-
 pub tested_as : (old new : Ahead) (st next : Reached) (fs gs : List (List ℕ) → List No) (f g : List (List ℕ) → Reached) (r : Result (Unit {0}) JudgeError)
     → ((outs : List (List ℕ)) → fs outs ≡ gs outs) → ((outs : List (List ℕ)) → f outs ≡ g outs) → Tested old new st next fs f r → Tested old new st next gs g r
 tested_as old new st next fs gs f g (Ok u) a b t =
@@ -284,19 +273,6 @@ entry_told b old new st mid next p name t o r some none is told =
     (tested_as old new mid next (λ outs. group_tests (subject_with b outs) p mid mid.entries) (λ outs. group_tests (subject_with b outs) p (with_entry st t st.entry) (st.entries - 1)) (λ outs. behind_group (subject_with b outs) mid mid.entries) (λ outs. after_entry (subject_with b outs) st o) r same after told)
 
 -- ---- items
-
-pub items_of_halt : (A B : Type 0) (s t : Type 0) (os ps : List ℕ) (n m : ℕ) (e : JudgeError) → Halts {A = A} s os ps (Err e) → m ≡ n → HaltsItems {A = B} t n m (Err e)
-items_of_halt A B s t os ps n m (Fault e) h d = d
-items_of_halt A B s t os ps n m Device h d = absurd h
-items_of_halt A B s t os ps n m TooLong h d = absurd h
-items_of_halt A B s t os ps n m (Output p) h d = d
-items_of_halt A B s t os ps n m LongOutput h d = d
-
-pub begins_front : (items is : List Item) → begins (onto items is) ≡ true → begins items ≡ true
-begins_front [] is h = refl
-begins_front (Groups n ∷ items) is h = refl
-begins_front (End ∷ items) is h = refl
-begins_front (i ∷ items) is h = absurd (false≢true h)
 
 pub opens_first : (i : Item) (is : List Item) → begins (i ∷ is) ≡ true → (i ≡ End → ⊥) → opens i ≡ true
 opens_first (Groups n) is h other = refl

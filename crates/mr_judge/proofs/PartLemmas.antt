@@ -1,50 +1,23 @@
 -- The partitions item by item: the faults that are left, and the counters.
-use Rattle.std.proofs.Common.{◌≡◌, ℕ, zero, suc, ◌+◌, ◌-◌, ◌<◌, ◌≤◌, Option, Some, None, List, [], ◌∷◌, ◌++◌, length, refl, ap, sym, ◌∙◌, inl, inr, ◌⊎◌, arith, length-append}
+use Rattle.std.proofs.Common.{◌≡◌, ℕ, zero, suc, ◌+◌, ◌-◌, ◌≤◌, Option, Some, None, List, [], ◌∷◌, ◌++◌, length, refl, ◌∙◌, arith, length-append}
 use Rattle.mr_bytes.specs.declared.Name.{Name}
 use Rattle.mr_certform.specs.declared.grammar_state.Item.{Item}
 use Rattle.mr_certform.specs.declared.grammar_state.Item.TheVariants.{Groups, Entries, Entry, End}
-use Rattle.mr_certform.specs.Spelling.{left_behind}
 use Rattle.mr_bytes.specs.Pairs.{Triple}
 use Rattle.mr_sequential.specs.Good.{named}
-use Rattle.mr_verdict.specs.declared.answers.No.{No}
-use Rattle.mr_verdict.specs.Verdict.{Reached, Subject, with_entry, behind_group, entry_tests, after_entry, tests, after, part_faults, first, entries_in}
-use Rattle.mr_verdict.specs.Steps.{Answers, HasRoom, Room}
-use Rattle.mr_judge.proofs.Faults.{first_more, told_left, told_is}
+use Rattle.mr_verdict.specs.Verdict.{Reached, Subject, with_entry, behind_group, entry_tests, after_entry, tests, after, part_faults, entries_in}
+use Rattle.mr_verdict.specs.Steps.{Room}
 
 -- the faults from an item on that isn't the end
 pub faults_step : (s : Subject) (at : ℕ) (st : Reached) (i : Item) (is : List Item) → (i ≡ End → ⊥) → part_faults s at st (i ∷ is) ≡ tests s st i ++ part_faults s at (after s st i) is
 faults_step s at st End is other = absurd (other refl)
 faults_step s at st i is other = refl
 
-pub end_or_not : (i : Item) → (i ≡ End) ⊎ ((i ≡ End → ⊥) × ((js : List Item) → left_behind i js ≡ js))
-end_or_not End = inl refl
-end_or_not i = inr (λ e. cc e, λ js. refl)
-
-pub loop_more : (s : Subject) (at : ℕ) (st : Reached) (i : Item) (is js : List Item) → is ≡ i ∷ left_behind i js → (i ≡ End → ⊥) → tests s st i ≡ [] → first (part_faults s at (after s st i) js) ≡ first (part_faults s at st is)
-loop_more s at st i is js e other none =
-    elim (end_or_not i) [
-      | inl d ↦ absurd (other d)
-      | inr d ↦ sym (ap (λ w. first (part_faults s at st w)) (e ∙ ap (λ w. i ∷ w) (d.1 js)) ∙ (ap first (faults_step s at st i js other) ∙ first_more (tests s st i) (part_faults s at (after s st i) js) none))
-    ]
-
-pub loop_end : (s : Subject) (at : ℕ) (st : Reached) (i : Item) (is js : List Item) → is ≡ i ∷ js → i ≡ End → tests s st i ≡ [] → first (part_faults s at st is) ≡ None
-loop_end s at st i is js e d none = ap (λ w. first (part_faults s at st w)) (e ∙ ap (λ (w : Item). w ∷ js) d) ∙ ap first (sym (ap (tests s st) d) ∙ none)
-
-pub loop_fault : (s : Subject) (at : ℕ) (st : Reached) (i : Item) (is js : List Item) (f : No) → is ≡ i ∷ js → Answers (tests s st i) f → Answers (part_faults s at st is) f
-loop_fault s at st i is js f e told =
-    elim (end_or_not i) [
-      | inl d ↦ told_is (tests s st i) (part_faults s at st is) f (ap (λ w. first (part_faults s at st w)) (e ∙ ap (λ (w : Item). w ∷ js) d) ∙ ap first (sym (ap (tests s st) d))) told
-      | inr d ↦ told_is (tests s st i ++ part_faults s at (after s st i) js) (part_faults s at st is) f (ap (λ w. first (part_faults s at st w)) e ∙ ap first (faults_step s at st i js d.0)) (told_left (tests s st i) (part_faults s at (after s st i) js) f told)
-    ]
-
 -- ---- how many entries there were
 
 pub entries_more : (i : Item) (is : List Item) → entries_in (i ∷ is) ≡ entries_in (i ∷ []) + entries_in is
 entries_more (Entry name) is = omega arith
 entries_more i is = omega arith
-
-pub entries_end : (i : Item) (is js : List Item) → is ≡ i ∷ left_behind i js → i ≡ End → entries_in is ≡ 0
-entries_end i is js e d = ap entries_in (e ∙ ap (λ (w : Item). w ∷ left_behind w js) d)
 
 with_named : (st : Reached) (t : Triple) (e : ℕ) → (with_entry st t e).named ≡ st.named + 1
 with_named st t zero = refl
@@ -80,18 +53,15 @@ behind_room : (s : Subject) (st : Reached) (k : ℕ) (more all : ℕ) → Roomy 
 behind_room s st zero more all r = record { next = omega arith; group = omega arith; entry = r.entry; named = r.named; values = r.values }
 behind_room s st (suc k) more all r = record { next = omega arith; group = omega arith; entry = r.entry; named = r.named; values = r.values }
 
-less_room : (st : Reached) (more all : ℕ) → Room st (more + 1) all → Room st more all
-less_room st more all r = record { next = omega arith; group = omega arith; entry = omega arith; named = omega arith; values = omega arith }
+pub less_room : (st : Reached) (few more all : ℕ) → few ≤ more → Room st more all → Room st few all
+less_room st few more all h r = record { next = omega (arith, h); group = omega (arith, h); entry = omega (arith, h); named = omega (arith, h); values = omega (arith, h) }
 
 pub entry_room : (s : Subject) (st : Reached) (o : Option Triple) (more all : ℕ) → Room st (more + 1) all → Room (after_entry s st o) more all
-entry_room s st None more all r = less_room st more all r
+entry_room s st None more all r = less_room st more (more + 1) all (omega arith) r
 entry_room s st (Some t) more all r = behind_room s (with_entry st t st.entry) (st.entries - 1) more all (with_room st t st.entry more all refl r)
 
 pub room_after : (s : Subject) (st : Reached) (i : Item) (more all : ℕ) → Room st (more + 1) all → Room (after s st i) more all
 room_after s st (Groups n) more all r = record { next = omega arith; group = omega arith; entry = omega arith; named = omega arith; values = omega arith }
 room_after s st (Entries n) more all r = record { next = omega arith; group = omega arith; entry = omega arith; named = omega arith; values = omega arith }
 room_after s st (Entry n) more all r = entry_room s st (named s.triples n) more all r
-room_after s st i more all r = less_room st more all r
-
-pub has_room : (st : Reached) (more all : ℕ) → Room st more all → all < 9223372036854775808 → HasRoom st
-has_room st more all r h = record { next = omega arith; group = omega arith; entry = omega arith; named = omega arith; values = omega arith }
+room_after s st i more all r = less_room st more (more + 1) all (omega arith) r

@@ -3,14 +3,14 @@ use Rattle.std.proofs.Common.{◌≡◌, ◌⊎◌, ℕ, zero, suc, ◌+◌, ◌
 use Rattle.std.specs.Prelude.{nat_eq, min, ◌^◌, Result, Ok, Err, MatchResult}
 use Rattle.std.proofs.Math.Seq.{map-set_same}
 use Rattle.std.specs.List.{common_prefix_len}
-use Rattle.std.specs.Io.KnownBytes.{Consumes, Keeps, IsAtEnd}
+use Rattle.std.specs.Io.KnownBytes.{Consumes, IsAtEnd}
 use Rattle.std.proofs.lemmas.Bool.{false≢true, eqb-true, eqb-false, eq-eqb}
 use Rattle.std.proofs.lemmas.List.{length-map, length-take}
 use Rattle.mr_store.specs.Devices.{counted, Counts}
 use Rattle.mr_input.specs.Files.{nth_file}
 use Rattle.mr_judge.specs.Outputs.{counted_at, Opens, Compares, Ends, CanCome}
 use Rattle.mr_certform.specs.Streaming.{Agrees}
-use Rattle.mr_certform.proofs.Streams.{agrees_read, agrees_kept, agrees_end}
+use Rattle.mr_certform.proofs.Streams.{agrees_read, agrees_end}
 use Rattle.mr_judge.specs.From.{AgreeAll}
 use Rattle.mr_judge.specs.Reading.{Reading, IsLeft, IsToCome, known_at, coming}
 
@@ -93,23 +93,6 @@ come_read old new n begun opened more none behind here read ends =
           let b : Agrees left ms = agrees_new new.exhausted left ms ends (subst (λ k. Agrees (cond new.exhausted (Some []) (known_at new.known k)) ms) same a) in
           let c : Agrees (known_at old.known n) (new.held ++ ms) = agrees_read (known_at old.known n) left new.held ms read b in
           subst (λ b. Agrees (cond b (Some []) (known_at old.known (old.opened - 1))) (new.held ++ ms)) (sym more) (subst (λ k. Agrees (known_at old.known k) (new.held ++ ms)) here c));
-    })
-
--- or none could be
-pub come_kept : (old new : Reading) (n : ℕ) → 1 ≤ old.opened → new.opened ≡ old.opened → old.exhausted ≡ false → new.exhausted ≡ false → old.held ≡ [] → new.held ≡ [] → drop old.opened new.known ≡ drop old.opened old.known → n ≡ old.opened - 1
-    → Keeps (known_at old.known n) (known_at new.known n) → (rest : List ℕ) (later : List (List ℕ)) → IsToCome new rest later → IsToCome old rest later
-come_kept old new n begun opened more still none nothing behind here kept =
-    come_back old new [] (record {
-      begun = begun;
-      opened = opened;
-      behind = behind;
-      held = ap (λ w. w ++ []) none ∙ sym nothing;
-      agrees = λ ms a. (
-          let left : Option (List ℕ) = known_at new.known n in
-          let same : new.opened - 1 ≡ n = omega (arith, opened, here) in
-          let b : Agrees left ms = subst (λ b. Agrees (cond b (Some []) left) ms) still (subst (λ k. Agrees (cond new.exhausted (Some []) (known_at new.known k)) ms) same a) in
-          let c : Agrees (known_at old.known n) ms = agrees_kept (known_at old.known n) left ms kept b in
-          subst (λ b. Agrees (cond b (Some []) (known_at old.known (old.opened - 1))) ms) (sym more) (subst (λ k. Agrees (known_at old.known k) ms) here c));
     })
 
 -- some bytes may always come

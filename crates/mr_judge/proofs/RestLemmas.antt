@@ -20,9 +20,8 @@ use Rattle.mr_verdict.specs.declared.items.JudgeError.TheVariants.{Fault, Device
 use Rattle.mr_verdict.specs.Verdict.{start, subject_of, part_faults, count_faults, accepted_by, entries_in, first}
 use Rattle.mr_verdict.specs.Steps.{Counted, Listed, counted, listed, header_met, case_at}
 use Rattle.mr_verdict.specs.Items.{Coming, CanCome, Answered, IsStopped, Each}
-use Rattle.mr_judge.specs.Blocks.{IsTold, Judges}
 use Rattle.mr_input.specs.Files.{nth_file}
-use Rattle.mr_judge.specs.Outputs.{Ahead, Fits, Leaves, Through, Looked, IsRestTold, RestJudged, OfBytes, IsVerdict, AllJudged, begins}
+use Rattle.mr_judge.specs.Outputs.{IsTold, Judges, Ahead, Leaves, Through, Looked, IsRestTold, RestJudged, OfBytes, IsVerdict, AllJudged, begins}
 use Rattle.mr_judge.proofs.Faults.{told_is}
 use Rattle.mr_judge.proofs.GrammarLemmas.{awaits, skips_place, partitions_place}
 use Rattle.mr_judge.proofs.KindLemmas.{in_kind}
@@ -176,9 +175,6 @@ only_leaves outs rest later e = record {
   rest_is = sym e.0;
   later_is = λ q. (let d : 0 + q ≡ q = omega arith in ap (nth_file outs) d ∙ ap (λ (ls : List (List ℕ)). nth_file ls q) (sym e.1));
 }
-
-pub only_fits : (ahead : Ahead) (outs : List (List ℕ)) → Only ahead outs → Fits ahead start
-only_fits ahead outs only rest later g = (outs, only_leaves outs rest later (only rest later g))
 
 pub at_hand : (ahead : Ahead) (old : Coming) (o : RequestSpec) (files outs : List (List ℕ)) (bytes : List ℕ) (n m : ℕ) (r : Result Yes JudgeError) → Only ahead outs → ((is : List Item) (at : ℕ) → old is at → OfBytes is at bytes) → length outs ≡ o.parts
     → Through ahead start (AllJudged old o files n m r) → IsVerdict o files outs bytes r × Looked (items_of bytes) n m

@@ -5,5 +5,4 @@ pub mod Reading
 pub mod Readers
 pub mod Rows
 pub mod From
-pub mod Blocks
 pub mod Metered

@@ -14,12 +14,11 @@ use Rattle.mr_judge.specs.declared.outputs.OutputError.TheVariants.{Device, TooL
 use Rattle.mr_jobs.specs.JobSpec.{RequestSpec}
 use Rattle.mr_certform.specs.Grammar.{AreBytes}
 use Rattle.mr_certform.specs.Spelling.{items_of, stop}
-use Rattle.mr_verdict.specs.Verdict.{Reached, Accepted, passes, count_faults, accepted_by, entries_in, first, verdict_of}
-use Rattle.mr_verdict.specs.Steps.{Answers, Ground, subject_with, case_at}
+use Rattle.mr_verdict.specs.Verdict.{Reached, Subject, Accepted, start, passes, part_faults, count_faults, accepted_by, entries_in, first, verdict_of}
+use Rattle.mr_verdict.specs.Steps.{Answers, case_at}
 use Rattle.mr_verdict.specs.declared.answers.Yes.{Yes}
 use Rattle.mr_verdict.specs.Headline.{accepted_of}
 use Rattle.mr_verdict.specs.Items.{Coming}
-use Rattle.mr_judge.specs.Blocks.{Judged}
 
 -- what may be still to come of the output that is open, and which outputs behind it
 abbrev pub Ahead : Type 1
@@ -124,12 +123,6 @@ EndTold old new p groups from (Err (Fault e)) =
     (r : List ℕ) × ((l : List (List ℕ)) × (old r l × ((groups ≡ 0) × ((1 ≤ length r) × (e ≡ OutputDiffers p from)))))
 EndTold old new p groups from (Err e) = Unit {0}
 
--- what an answer on rows says, with others behind them
-abbrev pub RowsJudged : Ahead → Ahead → Ground → Reached → Reached → List Item → Result Bool JudgeError → Type 0
-RowsJudged old new b st next is (Ok v) = Onward old new st next (λ outs. (at : ℕ) (js : List Item) → Judged (subject_with b outs) at st next is js (Ok v))
-RowsJudged old new b st next is (Err (Fault e)) = Through old st (λ outs. (at : ℕ) (js : List Item) → Judged (subject_with b outs) at st next is js (Err e))
-RowsJudged old new b st next is (Err e) = Unit {0}
-
 -- a partition opens, or all ends
 abbrev pub begins : List Item → Bool
 begins [] = true
@@ -137,15 +130,26 @@ begins (Groups n ∷ is) = true
 begins (End ∷ is) = true
 begins is = false
 
+-- an answer on faults, and on how many entries there are: none and as many, or the first of them; or the items can't be had
+abbrev pub IsTold : List No → ℕ → Result ℕ JudgeError → Type 0
+IsTold fs n (Ok m) = (first fs ≡ None) × (m ≡ n)
+IsTold fs n (Err (Fault e)) = Answers fs e
+IsTold fs n (Err e) = Unit {0}
+
+-- how many names were looked up before and behind
+abbrev pub Looked : List Item → ℕ → ℕ → Type 0
+Looked is before behind = (before ≤ behind) × (behind ≤ before + entries_in is)
+
+-- an answer on items that may come, judged from the first partition on, and how many names were looked up before and behind
+abbrev pub Judges : Coming → Subject → ℕ → ℕ → Result ℕ JudgeError → Type 0
+Judges old s before behind answer =
+    (is : List Item) × ((at : ℕ) × (old is at × (IsTold (part_faults s at start is) (entries_in is) answer × Looked is before behind)))
+
 -- what an answer on the certificate behind its front says: no fault, and what is accepted; or the first of the faults
 abbrev pub IsRestTold : List No → Accepted → Result Yes JudgeError → Type 0
 IsRestTold fs accepted (Ok y) = (first fs ≡ None) × (accepted ≡ accepted_of y)
 IsRestTold fs accepted (Err (Fault e)) = Answers fs e
 IsRestTold fs accepted (Err e) = Unit {0}
-
--- how many names were looked up before and behind
-abbrev pub Looked : List Item → ℕ → ℕ → Type 0
-Looked is before behind = (before ≤ behind) × (behind ≤ before + entries_in is)
 
 -- of items that may come
 abbrev pub RestJudged : Coming → RequestSpec → List (List ℕ) → ℕ → ℕ → Result Yes JudgeError → List (List ℕ) → Type 0

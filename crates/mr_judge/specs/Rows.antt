@@ -1,15 +1,21 @@
 -- Of no public promise: a row that is judged by the pair that it brings, whatever pairs there are.
-use Rattle.std.specs.Prelude.{ℕ, ◌-◌, Option, List, []}
+use Rattle.std.specs.Prelude.{◌≡◌, ℕ, ◌-◌, Option, Some, None, MatchOption, List, []}
 use Rattle.std.specs.Option.{option_map}
 use Rattle.mr_bytes.specs.declared.Name.{Name}
 use Rattle.mr_bytes.specs.Pairs.{Triple}
 use Rattle.mr_jobs.specs.JobSpec.{RequestSpec}
+use Rattle.mr_sequential.specs.Good.{named}
 use Rattle.mr_certform.specs.declared.grammar_state.Item.{Item}
 use Rattle.mr_certform.specs.declared.grammar_state.Item.TheVariants.{Entry, End}
 use Rattle.mr_verdict.specs.declared.answers.No.{No}
 use Rattle.mr_verdict.specs.Verdict.{Reached, Subject, entry_tests, after_entry, tests, after}
 use Rattle.mr_verdict.specs.Steps.{subject_with}
 use Rattle.mr_judge.specs.declared.border.FoundItem.{FoundItem}
+
+-- where the row's item is an entry, what was found is what is emitted under its name
+abbrev pub IsFound : List Triple → FoundItem → Type 0
+IsFound ts r = (name : Name) → r.item ≡ Entry name
+    → MatchOption r.found (named ts name ≡ None) (λ p. named ts name ≡ Some (record { key = p.0.now; value = p.1; name = name }))
 
 -- what a row is judged against: the rules of the request, and the outputs; no pairs, since a row brings its own
 abbrev pub row_subject : RequestSpec → List (List ℕ) → Subject

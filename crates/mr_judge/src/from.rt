@@ -9,8 +9,7 @@ ghost use Rattle.mr_judge.specs.Outputs.{IsVerdict};
 ghost use Rattle.mr_judge.specs.From.{Give, Judged, VerdictOfSome, IsVerdictFrom, IsDevice};
 ghost use Rattle.mr_judge.specs.Readers.{StopOfSome, ReportsNoRead};
 
-use crate::judge::judge_all;
-use crate::parts::Work;
+use crate::judge::{Work, judge_all};
 use crate::readers::{ByRef, ReaderOutputs};
 use mr_bytes::{Progress, Unwatched};
 use mr_certform::StreamWalker;

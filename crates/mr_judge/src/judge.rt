@@ -14,14 +14,14 @@ ghost use Rattle.mr_verdict.specs.Cases.{IsVerdictOn, IsWorth, verdict_on};
 ghost use Rattle.mr_verdict.specs.Headline.{IsCertified, accepted_of};
 ghost use Rattle.mr_judge.specs.Metered.{IsBounded, IsExact, cut_by};
 ghost use Rattle.mr_verdict.specs.Steps.{case_at};
-ghost use Rattle.mr_judge.specs.Blocks.{Judges};
 ghost use Rattle.mr_judge.specs.Kinds.{InKind};
 ghost use Rattle.mr_verdict.specs.Items.{CanCome, Each};
 ghost use Rattle.mr_judge.specs.Outputs.{CanCome as CanComeAhead, Fits, Through, RestJudged};
 ghost use Rattle.mr_judge.specs.Outputs.{AllJudged, HaltsItems, HaltsOutputs, begins};
 
+use crate::judge_state::JudgeState;
 use crate::outputs::{MemoryOutputs, Outputs};
-use crate::parts::{Work, check_parts};
+use crate::parts::check_parts;
 use mr_bytes::{Progress, Unwatched};
 use mr_certform::Walker;
 use mr_index::{EmissionIndex, Meter};
@@ -32,6 +32,27 @@ use mr_verdict::{
     Case, Computation, ItemSource, JudgeError, No, Yes, expect_count, expect_header, read_skips,
 };
 use std::alloc::{AllocError, Global};
+
+/// What a judgement works with: memory, and its counts of what it looks up and maps.
+#[derive(Drop)]
+pub(crate) struct Work {
+    pub alloc: Global,
+    pub meter: Meter,
+}
+
+impl Work {
+    pub(crate) fn new(alloc: Global) -> Work
+        ensures { (result.meter.lookups ≡ 0) × (result.meter.mapped ≡ 0) }
+    {
+        Work {
+            alloc,
+            meter: Meter {
+                lookups: 0,
+                mapped: 0,
+            },
+        }
+    }
+}
 
 /// The plan of an input under a request that fits it.
 pub fn plan_of<'a>(
@@ -85,7 +106,8 @@ fn check_rest<I: ItemSource, O: Outputs>(
         let _few = plan.count();
         let meter = &mut work.meter;
         let index = EmissionIndex::of_watched(work.alloc, &kept, request.job(), meter, watch)?;
-        check_parts(request, &index, outputs, walker, work, watch)?
+        let mut judging = JudgeState::new(work.alloc);
+        check_parts(request, &index, outputs, walker, meter, watch, &mut judging)?
     };
     Ok(Yes { skips, pairs })
 }

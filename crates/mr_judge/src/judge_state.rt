@@ -328,6 +328,7 @@ impl<'a> JudgeState<'a> {
         }
     }
 
+    #[inline(always)]
     fn found_entry<O: Outputs>(
         &mut self,
         request: &Request,
@@ -355,6 +356,7 @@ impl<'a> JudgeState<'a> {
     }
 
     /// Tests an entry, given its row.
+    #[inline(always)]
     fn entry<O: Outputs>(
         &mut self,
         request: &Request,
@@ -405,6 +407,7 @@ impl<'a> JudgeState<'a> {
 
     /// Makes all tests of a row's item in their order, by the pair that the row brings. The end isn't
     /// tested: it is tested against the number of all pairs.
+    #[inline(always)]
     pub fn step<O: Outputs>(
         &mut self,
         request: &Request,

@@ -12,11 +12,10 @@ mod outputs;
 mod parts;
 mod readers;
 
-pub use border::{Border, FoundItem, Sought, read_block};
+pub use border::{Border, FoundItem};
 pub use entry_tests::test_named;
 pub use from::{check_from, judge_readers};
 pub use judge::{check_metered, judge_plainly, plan_of, walk};
 pub use judge_state::JudgeState;
 pub use outputs::{MemoryOutputs, OutputError, Outputs};
-pub use parts::Block;
 pub use readers::ByRef;

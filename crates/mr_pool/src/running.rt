@@ -1,25 +1,19 @@
 //! A run: workers do the job, then its result is assembled and judged.
 //!
-//!     run_workers  ->  done      ->  one thread assembles files and certificate;
-//!                                    others map the input for the judge       ->  judge
+//!     run_workers  ->  done      ->  one thread assembles files and certificate  ->  judge
 //!                  ->  failed    ->  Failed, where script, damage or store accounts for the fault
 //!                  ->  neither   ->  Uncertified
 //!
-//! Only one thread can copy and encode, so the others map meanwhile: by the judge's own code and
-//! from the input alone (`IsMappedFor`). They leave out no record. For a certificate that leaves
-//! some out the judge maps again, and both maps are held. The region store goes with the workers,
-//! so regions and what the judge holds are never there together. After the threads the book's shape
-//! and end are compared: a lock's type does not say what it holds.
+//! The judge has as many threads as there are workers, and takes nothing from the run but the
+//! result. The region store and the plan go with the workers, so they and what the judge holds are
+//! never there together. After the threads the book's shape and end are compared: a lock's type does
+//! not say what it holds.
 ghost use Rattle.std.specs.Prelude.{◌≡◌, ◌↔◌, ◌⊎◌, Err, ◌≤◌, ◌<◌, ◌^◌, Some, Ok, IfOk, OnOk, IfErr};
 ghost use Rattle.std.specs.Prelude.{Bool, IsTrue, vec_len};
 ghost use Rattle.mr_pool.specs.Endings.{ending_of};
 ghost use Rattle.mr_input.specs.Files.{contents, split_total};
 ghost use Rattle.mr_core.specs.declared.event.End.{End as Ended};
-ghost use Rattle.mr_book.specs.Assembled.{assembled_certificate, assembled_outputs};
 ghost use Rattle.mr_book.specs.Faithful.{IsOpenedFor};
-ghost use Rattle.mr_book.specs.Assembling.{SpellsWhereItCan, reduced_under};
-ghost use Rattle.mr_certform.specs.Value.{Spells};
-ghost use Rattle.mr_check.specs.Ahead.{IsMappedFor};
 ghost use Rattle.mr_verdict.specs.declared.answers.No.{No};
 ghost use Rattle.mr_sequential.specs.Good.{IsGoodResult};
 ghost use Rattle.mr_verdict.specs.Headline.{IsCertified, accepted_of};
@@ -33,7 +27,7 @@ use crate::workers::{JudgesProgress, RunProgress, Shared, TaskFlags, run_workers
 use mr_book::{Book, History, Seat};
 use mr_bytes::{Gate, OpenGate, Phase, Progress, RecordName, Unwatched};
 use mr_certform::Version;
-use mr_check::{Case, JudgeOptions, MappedInput, No, Yes, is_same_fault, judge, map_input};
+use mr_check::{Case, JudgeOptions, No, Yes, is_same_fault, judge};
 use mr_core::{End, JobFault, Shape};
 use mr_input::Input;
 use mr_jobs::Request;
@@ -46,7 +40,6 @@ use std::marker::Brand;
 use std::sync::atomic::AtomicBool;
 use std::sync::ledger::{Blank, Ledger};
 use std::sync::{Condvar, Mutex, Wait};
-use std::thread;
 use std::thread::Threads;
 use thiserror::Error;
 
@@ -177,7 +170,6 @@ pub struct Environment<'a, G: Gate, S: RegionStore + Drop, W: Progress> {
 struct RunJudge<'a, W: Progress, R: Threads + Sync> {
     rt: &'a R,
     alloc: Global,
-    plan: &'a Plan<'a>,
     spec: RunSpec<'a>,
     /// Whether the store of regions is steady.
     steady: bool,
@@ -185,67 +177,7 @@ struct RunJudge<'a, W: Progress, R: Threads + Sync> {
 }
 
 impl<'a, W: Progress, R: Threads + Sync> RunJudge<'a, W, R> {
-    /// One thread assembles files and certificate; the others map the input for the judge.
-    fn assemble_and_map<L: Ledger>(
-        &self,
-        book: &Book<L>,
-    ) -> Result<(Vec<Vec<u8>>, Vec<u8>, MappedInput<'a>), AllocError>
-        requires plan { self.now.plan.now ≡ record { size = self.now.spec.request.now.split; files = self.now.spec.input.now } }
-        requires runnable { IsRunnable self.now.spec.request.now self.now.spec.input.now self.now.spec.shape }
-        requires ends { book.now.state.end ≡ Some Ended.Done }
-        requires opened { IsOpenedFor self.now.spec.request.now self.now.spec.input.now book.now.shape }
-        ensures outputs { IfOk result (λ r. contents r.0.items
-            ≡ assembled_outputs (reduced_under book.now.reduces) book.now.state) }
-        ensures certificate { IfOk result (λ r. Spells r.1.items
-            (assembled_certificate self.now.spec.request.now self.now.spec.input.now
-            (reduced_under book.now.reduces) book.now.state)) }
-        ensures version { IfOk result (λ r. SpellsWhereItCan self.now.spec.version r.1.items
-            (assembled_certificate self.now.spec.request.now self.now.spec.input.now
-            (reduced_under book.now.reduces) book.now.state)) }
-        ensures mapped { IfOk result (λ r. IsMappedFor self.now.spec.request.now self.now.spec.input.now (r.2)) }
-    {
-        let RunSpec {
-            request,
-            input,
-            shape: Shape { workers, .. },
-            version,
-            ..
-        } = self.spec;
-        let (rt, alloc, plan, watch) = (self.rt, self.alloc, self.plan, self.watch);
-        let mapping = move || -> Result<MappedInput<'_>, AllocError>
-            requires same { plan.now.size ≡ request.now.split }
-            requires workers { (1 ≤ workers) × (workers ≤ 64) }
-            ensures { IfOk result (IsMappedFor request.entry.now plan.entry.now.files) }
-        {
-            let progress = JudgesProgress { watch };
-            let options = JudgeOptions::of(workers, &OpenGate, &progress, None);
-            map_input(rt, alloc, request, plan, &options)
-        };
-        let assembling = move || -> Result<(Vec<Vec<u8>>, Vec<u8>), AllocError>
-            requires ends { book.now.state.end ≡ Some Ended.Done }
-            requires opened { IsOpenedFor request.now input.now book.now.shape }
-            ensures outputs { IfOk result (λ r. contents r.0.items
-                ≡ assembled_outputs (reduced_under book.entry.now.reduces) book.entry.now.state) }
-            ensures certificate { IfOk result (λ r. Spells r.1.items
-                (assembled_certificate request.entry.now input.entry.now
-                (reduced_under book.entry.now.reduces) book.entry.now.state)) }
-            ensures version { IfOk result (λ r. SpellsWhereItCan version r.1.items
-                (assembled_certificate request.entry.now input.entry.now
-                (reduced_under book.entry.now.reduces) book.entry.now.state)) }
-        { book.assemble_bytes(alloc, request, input, version) };
-        let (mapped, assembled) = thread::join(rt, mapping, assembling);
-        let (outputs, certificate) = assembled?;
-        Ok((outputs, certificate, mapped?))
-    }
-
-    /// The verdict on a result, given the input as it was mapped ahead.
-    fn judge(
-        &self,
-        mapped: &MappedInput<'_>,
-        outputs: &[Vec<u8>],
-        certificate: &[u8],
-    ) -> Result<Yes, No>
-        requires mapped { IsMappedFor self.now.spec.request.now self.now.spec.input.now mapped.now }
+    fn judge(&self, outputs: &[Vec<u8>], certificate: &[u8]) -> Result<Yes, No>
         requires runnable { IsRunnable self.now.spec.request.now self.now.spec.input.now self.now.spec.shape }
         ensures headline { IfOk result
             (λ y. IsCertified self.now.spec.request.now self.now.spec.input.now
@@ -269,7 +201,7 @@ impl<'a, W: Progress, R: Threads + Sync> RunJudge<'a, W, R> {
         };
         let workers = self.spec.shape.workers;
         let progress = JudgesProgress { watch: self.watch };
-        let options = JudgeOptions::of(workers, &OpenGate, &progress, Some(mapped));
+        let options = JudgeOptions::of(workers, &OpenGate, &progress);
         judge(self.rt, self.alloc, &case, &options)
     }
 
@@ -278,7 +210,6 @@ impl<'a, W: Progress, R: Threads + Sync> RunJudge<'a, W, R> {
         book: Book<L>,
         seats: Vec<Seat<L>>,
     ) -> Result<Certified, RunFault>
-        requires plan { self.now.plan.now ≡ record { size = self.now.spec.request.now.split; files = self.now.spec.input.now } }
         requires runnable { IsRunnable self.now.spec.request.now self.now.spec.input.now self.now.spec.shape }
         requires ends { book.state.end ≡ Some Ended.Done }
         requires opened { IsOpenedFor self.now.spec.request.now self.now.spec.input.now book.shape }
@@ -291,15 +222,20 @@ impl<'a, W: Progress, R: Threads + Sync> RunJudge<'a, W, R> {
             self.now.steady book.shape) }
     {
         self.watch.report(Phase::Judging, 0, 1);
-        let (outputs, certificate, mapped) = self.assemble_and_map(&book)?;
-        let judged = self.judge(&mapped, outputs.as_slice(), certificate.as_slice());
+        let spec = self.spec;
+        let (outputs, certificate) = book.assemble_bytes(
+            self.alloc,
+            spec.request,
+            spec.input,
+            spec.version,
+        )?;
+        let judged = self.judge(outputs.as_slice(), certificate.as_slice());
         let history = book.close(seats);
-        answer(self.spec, outputs, certificate, judged, history)
+        answer(spec, outputs, certificate, judged, history)
     }
 
     /// The result of a run whose book has closed.
     fn conclude<L: Ledger>(&self, book: Book<L>, seats: Vec<Seat<L>>) -> Result<Certified, RunFault>
-        requires plan { self.now.plan.now ≡ record { size = self.now.spec.request.now.split; files = self.now.spec.input.now } }
         requires runnable { IsRunnable self.now.spec.request.now self.now.spec.input.now self.now.spec.shape }
         requires seats { vec_len seats ≡ L.parts }
         ensures certified { IfOk result
@@ -371,7 +307,7 @@ fn run_in<
         book: Mutex::new(book),
         news: Condvar::new(),
         stopped: AtomicBool::new(false),
-        plan: &plan,
+        plan,
         request: spec.request,
         orders: FaultPlan::of(alloc, spec.script)?,
         completed: TaskFlags::new(alloc, maps, parts)?,
@@ -383,7 +319,6 @@ fn run_in<
     let judge = RunJudge {
         rt,
         alloc,
-        plan: &plan,
         spec,
         steady: S::is_steady(),
         watch,

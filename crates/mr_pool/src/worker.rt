@@ -135,10 +135,10 @@ impl<'s, L: Ledger, G: Gate, W: Progress, S: RegionStore, R: Wait> Worker<'s, L,
 
     /// Executes a map task and reports. A worker whose store fails is lost.
     fn map(&mut self, attempt: u32, split: u32, skips: &[u32]) -> Result<Next, AllocError>
-        requires { split < split_total self.old.shared.now.plan.now.size self.old.shared.now.plan.now.files }
+        requires { split < split_total self.old.shared.now.plan.size self.old.shared.now.plan.files }
     {
         let shared = self.shared;
-        if let Some(rec) = shared.orders.failing(shared.plan, split, skips) {
+        if let Some(rec) = shared.orders.failing(&shared.plan, split, skips) {
             self.before_report(Task::Map(split))?;
             self.report_failure(attempt, rec)?;
         } else if !self.map_pieces(attempt, split, skips)? {
@@ -154,14 +154,14 @@ impl<'s, L: Ledger, G: Gate, W: Progress, S: RegionStore, R: Wait> Worker<'s, L,
     /// stops without output, and its regions stay in the store. If that worker's output is lost
     /// meanwhile, it goes on.
     fn map_pieces(&mut self, attempt: u32, split: u32, skips: &[u32]) -> Result<bool, AllocError>
-        requires { split < split_total self.old.shared.now.plan.now.size self.old.shared.now.plan.now.files }
+        requires { split < split_total self.old.shared.now.plan.size self.old.shared.now.plan.files }
     {
         let shared = self.shared;
         let task = Task::Map(split);
         let demand = shared.completed.demand(task);
         let mut stored = Stored::new(shared.alloc, shared.request.parts(), self.number);
         let mut is_ordered = false;
-        let mut rest = MapTask::new(shared.alloc, shared.plan, shared.request, split, skips)?;
+        let mut rest = MapTask::new(shared.alloc, &shared.plan, shared.request, split, skips)?;
         while !rest.is_done() {
             if !demand.is_wanted() {
                 if !is_ordered {
@@ -242,7 +242,7 @@ impl<'s, L: Ledger, G: Gate, W: Progress, S: RegionStore, R: Wait> Worker<'s, L,
                 return Ok(ReduceResult::Damaged(split));
             }
             if split == 0 {
-                reduction.reserve(guess_pairs(reduction.len(), shared.plan))?;
+                reduction.reserve(guess_pairs(reduction.len(), &shared.plan))?;
             }
         }
         match reduce_pairs(shared.alloc, shared.request.job(), reduction) {

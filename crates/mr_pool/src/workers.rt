@@ -99,7 +99,7 @@ pub(crate) struct Shared<'a, L: Ledger, G: Gate, W: Progress, S: RegionStore> {
     pub book: Mutex<Book<L>>,
     pub news: Condvar,
     pub stopped: AtomicBool,
-    pub plan: &'a Plan<'a>,
+    pub plan: Plan<'a>,
     pub request: &'a Request,
     pub orders: FaultPlan<'a>,
     pub completed: TaskFlags,
@@ -217,7 +217,8 @@ impl<'a, W: Progress> RunProgress<'a, W> {
     }
 }
 
-/// Reports the judge's work as one phase: mapping is its first half, judging the second.
+/// Reports the judge's work as one phase: the walk over the certificate is its first half, the
+/// windows of the input are the second.
 #[derive(Drop)]
 pub(crate) struct JudgesProgress<'a, W: Progress> {
     pub watch: &'a W,
@@ -226,8 +227,8 @@ pub(crate) struct JudgesProgress<'a, W: Progress> {
 impl<'a, W: Progress> Progress for JudgesProgress<'a, W> {
     fn report(&self, phase: Phase, done: u64, all: u64) {
         let before = match phase {
-            Phase::Mapping => 0,
-            Phase::Reducing | Phase::Judging => all,
+            Phase::Reducing | Phase::Judging => 0,
+            Phase::Mapping => all,
         };
         self.watch.report(
             Phase::Judging,

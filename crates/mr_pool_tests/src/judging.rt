@@ -4,37 +4,38 @@ ghost use Rattle.mr_tickets.specs.Views.{IsSeatOf};
 use crate::asked::Order;
 use crate::onlookers::Holding;
 use crate::telling::Teller;
-use mr_bytes::Gate;
-use mr_check::{No, Yes, check_gated};
+use mr_bytes::{Gate, Unwatched};
+use mr_check::{Computation, No, Yes, accept_read, check_gated};
 use mr_pool::Certified;
+use mr_store::{CountedRead, MemoryReader};
 use mr_tickets::{TicketSeat, Tickets};
-use std::alloc::Global;
+use std::alloc::{AllocError, Global};
 use std::thread::Threads;
 
-/// Holds the first piece of either phase until another of that phase has left.
+/// Holds the first section that enters until another has left, and likewise the first window.
 #[derive(Drop)]
 pub struct PhasesHeld {
-    /// How many pieces the first phase has.
-    maps: u32,
-    mapping: Holding,
-    judging: Holding,
+    /// The number of windows, if each split has one. They are numbered before the sections.
+    count: u32,
+    windows: Holding,
+    sections: Holding,
 }
 
 impl PhasesHeld {
     /// Nobody is held yet.
     pub fn of(certified: &Certified) -> PhasesHeld {
         PhasesHeld {
-            maps: certified.history.shape.maps,
-            mapping: Holding::new(),
-            judging: Holding::new(),
+            count: certified.history.shape.maps,
+            windows: Holding::new(),
+            sections: Holding::new(),
         }
     }
 
     fn holder(&self, piece: u32) -> &Holding {
-        if piece < self.maps {
-            &self.mapping
+        if piece < self.count {
+            &self.windows
         } else {
-            &self.judging
+            &self.sections
         }
     }
 }
@@ -75,6 +76,31 @@ pub fn judged<G: Gate, R: Threads + Sync>(
     ))
 }
 
+/// Whether the fast judge accepts a run's result: one thread, of a certificate that a reader gives.
+fn is_accepted(alloc: Global, order: &Order, certified: &Certified) -> Result<bool, AllocError> {
+    let request = &order.request;
+    let input = &order.input;
+    if !request.fits(input) {
+        return Ok(false);
+    }
+    let bytes = Vec::from_slice(alloc, certified.certificate.as_slice())?;
+    let mut certificate = MemoryReader::new(bytes, 65_536, None);
+    // What is left to read are bytes.
+    let _known = certificate.failures();
+    let computation = Computation { request, input };
+    let outputs = certified.outputs.as_slice();
+    let yes = accept_read(alloc, &computation, outputs, &mut certificate, &Unwatched);
+    Ok(yes.is_some())
+}
+
+/// Tells whether the fast judge accepts a run's result.
+pub fn show_accepted(out: &Teller, alloc: Global, order: &Order, certified: &Certified) {
+    match is_accepted(alloc, order, certified) {
+        Ok(accepted) => out.named("accepted", &accepted),
+        Err(refused) => out.lack(refused),
+    }
+}
+
 /// Tells the verdict on a run's result.
 fn show_verdict(out: &Teller, verdict: &Option<Result<Yes, No>>) {
     match verdict {
@@ -84,10 +110,11 @@ fn show_verdict(out: &Teller, verdict: &Option<Result<Yes, No>>) {
     }
 }
 
-/// Tells the verdict on a run's result, and whether a second piece of either phase went on while the first was held.
+/// Prints the verdict on a run's result, and whether a second section went on while the first was
+/// held, and likewise a second window.
 pub fn show(out: &Teller, verdict: &Option<Result<Yes, No>>, gate: &PhasesHeld) {
     show_verdict(out, verdict);
-    out.tell(format_args!("gate {}, {}\n", gate.mapping.says(), gate.judging.says()));
+    out.tell(format_args!("gate {}, {}\n", gate.sections.says(), gate.windows.says()));
 }
 
 /// Tells what a seat draws.

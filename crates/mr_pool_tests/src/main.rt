@@ -4,8 +4,8 @@
 //! standard input. It tells what the run answers. In the mode `history` it tells each event too, in `scratch` the same of a
 //! run whose regions lie in files of the folder where it runs, in `nowhere` in those of one that isn't there, in `watch` what who looks
 //! on is told, and in `gate` whether a second attempt went on while the first was held. In the mode `judge` it tells what
-//! as many threads as there are workers say of the result, and whether they shared the work, and in `tickets` what two
-//! seats draw. In the mode `book` it answers for the master's book alone.
+//! as many threads as there are workers say of the result, and whether they shared the work, in `accept` whether the fast
+//! judge accepts the result, and in `tickets` what two seats draw. In the mode `book` it answers for the master's book alone.
 #![tactic(auto)]
 
 mod asked;
@@ -178,6 +178,14 @@ fn judged<R: Threads + Wait + Sync>(threads: &R, out: &Teller, alloc: Global, or
     show_judged(threads, out, alloc, order, &done);
 }
 
+/// A run, and whether the fast judge accepts its result.
+fn accepted<R: Threads + Wait + Sync>(threads: &R, out: &Teller, alloc: Global, order: &Order) {
+    match done(threads, alloc, order, UNCALLED) {
+        Some(Ok(certified)) => judging::show_accepted(out, alloc, order, &certified),
+        _ => out.line("nothing to judge"),
+    }
+}
+
 /// Answers an order in a mode.
 fn answer<R: Threads + Wait + Sync>(
     threads: &R,
@@ -190,6 +198,7 @@ fn answer<R: Threads + Wait + Sync>(
         "gate" => held(threads, out, alloc, order),
         "watch" => watched(threads, out, alloc, order),
         "judge" => judged(threads, out, alloc, order),
+        "accept" => accepted(threads, out, alloc, order),
         "tickets" => judging::show_draws(out, alloc),
         "scratch" => scratched(threads, out, alloc, order, "."),
         "nowhere" => scratched(threads, out, alloc, order, "no/such/folder"),

@@ -125,10 +125,7 @@ fn joined(
 /// The pair of that name, as it is found and as it is told, where there is one.
 fn show_pair(teller: &Teller, index: &EmissionIndex, name: Name) {
     let mut meter = UNUSED;
-    let found = match index.find(name, &mut meter) {
-        Some(found) => Some(found.get()),
-        None => None,
-    };
+    let found = index.pair(name, &mut meter);
     let pair = index.pair(name, &mut meter);
     if found.is_none() && pair.is_none() {
         return;

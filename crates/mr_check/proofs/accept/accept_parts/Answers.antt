@@ -1,19 +1,23 @@
-use Rattle.std.proofs.Common.{◌≡◌, ℕ, Option, None, IfSome, List, ◌∙◌, subst, arith}
-use Rattle.mr_input.specs.Files.{contents}
-use Rattle.mr_jobs.specs.JobSpec.{RequestSpec}
-use Rattle.mr_splits.specs.Kept.{Choice}
-use Rattle.mr_index.specs.Index.{triples_of}
-use Rattle.mr_verdict.specs.Verdict.{part_faults, start, first}
-use Rattle.mr_verdict.specs.Steps.{subject}
-use Rattle.mr_check.proofs.WindowsLemmas.{no_claims}
+use Rattle.std.proofs.Common.{◌≡◌, List, ap, ◌∙◌, subst}
+use Rattle.mr_bytes.specs.declared.RecordName.{RecordName}
+use Rattle.mr_verdict.specs.Steps.{Known, subject}
+use Rattle.mr_check.specs.declared.walk.Walked.{Walked}
+use Rattle.mr_check.specs.Accepted.{known_behind}
+use Rattle.mr_check.specs.Claims.{claims_of}
+use Rattle.mr_check.specs.Walk.{HoldsFor, IsAccepted, known}
+use Rattle.mr_check.proofs.WalkLemmas.{accepted, known_same, passed_all}
 use Rattle.mr_check.proofs.accept.accept_parts.Goals as goal
 
 pub returns : goal.returns
 returns g c =
-    let o : RequestSpec = c.args.request.now in
-    let holds = c.in-Some-test_all.ensures.right 0 no_claims (omega arith) in
-    let w = c.in-Some.ensures.walked holds (c.in-Some-test_all.ensures.pairs ∙ c.if-emitted-named.false) in
-    let together : c.in-Ok-Some.joined ≡ contents c.args.outputs.now = subst (λ (o : Option (List (List ℕ))). IfSome o (λ j. j ≡ contents c.args.outputs.now)) c.in-Ok-Some.field-0-is c.in-Ok-Some.ensures in
-    let none = subst (λ (outs : List (List ℕ)). first (part_faults (subject (record { request = o; triples = triples_of o.job c.args.plan.now c.args.skips.now; outputs = outs })) w.1.0 start w.0) ≡ None) together
-    (subst (λ (k : Choice). first (part_faults (subject (record { request = o; triples = triples_of o.job k.cut k.skips; outputs = c.in-Ok-Some.joined })) w.1.0 start w.0) ≡ None) c.in-Ok.ensures.ok w.1.1.1.0) in
-    (w.0, (w.1.0, (w.1.1.0, ((none, w.1.1.1.1), (omega arith, omega arith)))))
+    let f = c.args.front.now in
+    let here = c.given-given.result in
+    let k : Known = known here in
+    let w = c.take_some-came.new.self in
+    let holds = subst (λ (x : Walked). HoldsFor k (claims_of x.claims)) c.end-walked.ensures c.in_ok-emitted.ensures.right in
+    let t = c.in-ToEnd.ensures.takes holds in
+    let all = passed_all (subject k) c.at-walk.result.judging w.judging t.0 (c.at-walk.ensures.begins ∙ c.before-began.ensures) t.1.1.1 in
+    let told = accepted k t.0 t.1.0 w.judging.named all (c.in_ok-emitted.ensures.pairs ∙ (c.if-emitted-named.false ∙ c.named-named.ensures)) in
+    let kept = c.in_ok-ground.ensures.kept ∙ ap (λ (l : List RecordName). record { cut = f.plan; skips = l }) c.deref.ensures.value in
+    let same : k ≡ known_behind f = known_same here f c.given-given.ensures.request (c.given-given.ensures.kept ∙ kept) (c.given-given.ensures.outputs ∙ c.in_ok-ground.ensures.outputs) in
+    subst (λ (v : Known). IsAccepted (g.I.ItemSource.gives c.args.items.now) v c.named-named.result) same (t.0, (t.1.0, (t.1.1.0, (told.0, c.named-named.ensures ∙ told.1))))

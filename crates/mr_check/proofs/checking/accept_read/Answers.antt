@@ -10,6 +10,7 @@ use Rattle.mr_judge.proofs.KindLemmas.{kinds_of}
 use Rattle.mr_judge.specs.declared.readers.ByRef.{ByRef}
 use Rattle.mr_judge.proofs.JudgeLemmas.{as_many}
 use Rattle.mr_verdict.proofs.HeadlineLemmas.{certified}
+use Rattle.mr_check.proofs.SectionLemmas.{some_more}
 use Rattle.mr_check.proofs.checking.accept_read.Goals as goal
 
 pub accept-requires-clause-given : goal.accept-requires-clause-given
@@ -21,14 +22,14 @@ accept-requires-clause-front g c is at there =
     let b = c.in-Ok.ensures.items is at there in
     subst (InKind AtMagic) (sym b.2) (kinds_of b.0)
 
-pub returns-in-Some : goal.returns-in-Some
-returns-in-Some g c =
+pub returns : goal.returns
+returns g c =
     let o = c.args.computation.now.request.now in
     let files = c.args.computation.now.input.now in
     let outs : List (List ℕ) = contents c.args.outputs.now in
     let known = g.C.CountedRead.remaining c.args.certificate.now in
-    let j = c.in-Some.ensures in
-    let b = c.in-Ok.ensures.items j.0 j.1.0 j.1.1.0 in
+    some_more c.accept.result _ _
+    (λ y j. (let b = c.in-Ok.ensures.items j.0 j.1.0 j.1.1.0 in
     let bytes : AreBytes b.0 = come_bytes known b.0 c.requires.known b.1 in
     let verdict = j.1.1.1.0 b.0 (record { bytes_are = bytes; items_are = b.2; stop_is = b.3 })
     (as_many c.args.outputs.now c.parts.result o.parts c.if-outputs-parts.false c.parts.ensures.same) in
@@ -37,5 +38,6 @@ returns-in-Some g c =
       agrees = come_agrees known b.0 b.1;
       are_bytes = bytes;
       verdict = verdict;
-      headline = certified o files outs b.0 (Ok c.in-Some.yes) bytes (omega (arith, c.split_size-size.ensures.same, c.split_size-size.ensures.within.0)) verdict;
-    }
+      headline = certified o files outs b.0 (Ok y) bytes (omega (arith, c.split_size-size.ensures.same, c.split_size-size.ensures.within.0)) verdict;
+    }))
+    c.accept.ensures

@@ -1,13 +1,10 @@
-use Rattle.std.proofs.Common.{◌≡◌, ◌<◌, ℕ, All, take, length}
-use Rattle.std.specs.List.{flat_map}
-use Rattle.mr_check.specs.Claims.{IsRightWindow}
-use Rattle.mr_check.specs.Joined.{joined}
-use Rattle.mr_check.specs.Walk.{known}
-use Rattle.mr_check.specs.Windows.{pairs_in}
+use Rattle.std.proofs.Common.{◌≡◌, ℕ, Option, ◌<◌, length}
+use Rattle.std.specs.Prelude.{IfSome, slice_index_or}
+use Rattle.mr_check.specs.Windows.{IsTested}
 use Rattle.mr_check.proofs.windows.test_all.Given as goal
 
 abbrev pub invariant-loop-w : goal.invariant-loop-w
 invariant-loop-w g l = record {
-  sum : l.sum ≡ length (flat_map (pairs_in l.given) (take l.w l.windows.list));
-  right : All (λ c. (i : ℕ) → i < l.w → IsRightWindow (known l.given).triples (joined (known l.given).outputs) c i) l.claims;
+  count : length l.tested.items ≡ l.w;
+  tested : (w : ℕ) (d : Option ℕ) → w < length l.tested.items → IfSome (slice_index_or l.tested.items w d) (IsTested l.given l.walked w);
 }

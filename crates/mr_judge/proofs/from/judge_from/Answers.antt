@@ -1,8 +1,7 @@
 use Rattle.std.proofs.Common.{◌≡◌, ℕ, List, map, sym, subst, ◌∙◌, arith}
 use Rattle.std.proofs.lemmas.Result.{err_from_is_err_and}
-use Rattle.mr_verdict.specs.declared.answers.Source.TheVariants.{Certificate, Output}
 use Rattle.mr_judge.specs.From.{IsDevice}
-use Rattle.mr_judge.proofs.FromLemmas.{no_memory, no_read, other_count, no_read_told, verdict_told}
+use Rattle.mr_judge.proofs.FromLemmas.{no_memory, other_count, no_read_told, verdict_told}
 use Rattle.mr_judge.proofs.from.judge_from.Goals as goal
 
 pub returns-then-outputs-parts-clause-judged : goal.returns-then-outputs-parts-clause-judged
@@ -13,12 +12,6 @@ pub returns-in_err-failures-clause-judged : goal.returns-in_err-failures-clause-
 returns-in_err-failures-clause-judged g c =
     let p = err_from_is_err_and c.from_residual.result c.from_residual.ensures.1 in
     no_memory c.args.computation.now.request.now c.args.computation.now.input.now (map g.R.CountedRead.remaining c.args.outputs.now) (g.C.CountedRead.remaining c.args.certificate.now) c.from_residual.result p.0 c.failures-certificate_failures.ensures.known p.1 p.2
-
-pub returns-then-failures-certificate_failures-clause-judged : goal.returns-then-failures-certificate_failures-clause-judged
-returns-then-failures-certificate_failures-clause-judged g c = no_read c.args.computation.now.request.now c.args.computation.now.input.now (map g.R.CountedRead.remaining c.args.outputs.now) (g.C.CountedRead.remaining c.args.certificate.now) Certificate c.failures-certificate_failures.ensures.known
-
-pub returns-in-Some-clause-judged : goal.returns-in-Some-clause-judged
-returns-in-Some-clause-judged g c = no_read c.args.computation.now.request.now c.args.computation.now.input.now (map g.R.CountedRead.remaining c.args.outputs.now) (g.C.CountedRead.remaining c.args.certificate.now) (Output c.in-Some.partition) c.failures-certificate_failures.ensures.known
 
 pub answer_of-requires : goal.answer_of-requires
 answer_of-requires g c = no_read_told c.args.computation.now.request.now c.args.computation.now.input.now (map g.R.CountedRead.remaining c.args.outputs.now) (g.C.CountedRead.remaining c.args.certificate.now) c.judge_lent-answer.result c.judge_lent-answer.ensures

@@ -1,22 +1,19 @@
-use Rattle.std.proofs.Common.{◌≡◌, ℕ, List, length, refl, ap, sym, ◌∙◌, subst, arith}
+use Rattle.std.proofs.Common.{◌≡◌, ℕ, List, length, refl, ap, ◌∙◌, subst, arith}
 use Rattle.std.specs.Prelude.{Ok, Err}
 use Rattle.std.proofs.lemmas.Result.{err_from_is_err_and}
 use Rattle.mr_splits.specs.Cut.{Cut, records_of}
 use Rattle.mr_splits.specs.Kept.{Choice}
 use Rattle.mr_bytes.specs.declared.RecordName.{RecordName}
-use Rattle.mr_verdict.specs.declared.answers.No.TheVariants.{OutOfMemory}
-use Rattle.mr_verdict.specs.declared.items.JudgeError.TheVariants.{Fault}
 use Rattle.mr_verdict.specs.Verdict.{Subject, start, subject_of}
 use Rattle.mr_index.proofs.WorkLemmas.{mapped-few}
 use Rattle.mr_verdict.specs.Steps.{subject_with, case_at}
-use Rattle.mr_judge.specs.Blocks.{Judges}
-use Rattle.mr_judge.specs.Outputs.{RestJudged}
+use Rattle.mr_judge.specs.Outputs.{Judges, RestJudged}
 use Rattle.mr_judge.proofs.GrammarLemmas.{awaits}
 use Rattle.mr_judge.proofs.KindLemmas.{in_kind}
 use Rattle.mr_judge.specs.Kinds.{InKind}
 use Rattle.mr_judge.proofs.VerdictLemmas.{front_listed, known_subject}
 use Rattle.mr_judge.proofs.OutputLemmas.{through_as, through_all}
-use Rattle.mr_judge.proofs.RestLemmas.{no_room, count_judged, listing, skips_judged, parts_begin, pairs_fault, pairs_fine}
+use Rattle.mr_judge.proofs.RestLemmas.{count_judged, listing, skips_judged, parts_begin, pairs_fault, pairs_fine}
 use Rattle.mr_judge.proofs.judge.check_rest.Goals as goal
 
 pub expect_count-requires-clause-awaits : goal.expect_count-requires-clause-awaits
@@ -44,15 +41,6 @@ returns-in_err-listed-clause-judged g c =
     rw (p.1, p.2) (through_all ahead start (RestJudged (gives c.args.walker.now) c.args.computation.now.request.now c.args.computation.now.input.now n n (Err e)) c.requires.outputs
     (λ outs. count_judged (gives c.args.walker.now) (gives c.expect_count.new.items) c.args.computation.now.request.now c.args.computation.now.input.now outs c.max_skips.result n e c.max_skips.ensures.same c.requires.given c.in_err-listed.ensures.counted))
 
-pub returns-in_err-plan-clause-judged : goal.returns-in_err-plan-clause-judged
-returns-in_err-plan-clause-judged g c =
-    let gives = g.I.ItemSource.gives in
-    let ahead = g.O.Outputs.gives c.args.outputs.now in
-    let n = c.args.work.now.meter.lookups in
-    let p = err_from_is_err_and c.from_residual-in_err-plan.result c.from_residual-in_err-plan.ensures.1 in
-    rw (p.1, p.2) (through_all ahead start (RestJudged (gives c.args.walker.now) c.args.computation.now.request.now c.args.computation.now.input.now n n (Err (Fault OutOfMemory))) c.requires.outputs
-    (λ outs. no_room (gives c.args.walker.now) c.args.computation.now.request.now c.args.computation.now.input.now outs n c.requires.given))
-
 pub returns-in_err-skips-clause-judged : goal.returns-in_err-skips-clause-judged
 returns-in_err-skips-clause-judged g c =
     let gives = g.I.ItemSource.gives in
@@ -62,15 +50,6 @@ returns-in_err-skips-clause-judged g c =
     let p = err_from_is_err_and c.from_residual-in_err-skips.result c.from_residual-in_err-skips.ensures.1 in
     rw (p.1, p.2) (through_all ahead start (RestJudged (gives c.args.walker.now) c.args.computation.now.request.now c.args.computation.now.input.now n n (Err e)) c.requires.outputs
     (λ outs. skips_judged (gives c.args.walker.now) (gives c.expect_count.new.items) (gives c.read_skips.new.items) c.args.computation.now.request.now c.args.computation.now.input.now outs c.max_skips.result c.in_ok-listed.listed n c.in_ok-plan.plan e c.max_skips.ensures.same c.in_ok-plan.ensures.plan c.in_ok-listed.ensures.given c.in_ok-listed.ensures.counted c.in_err-skips.ensures.listed))
-
-pub returns-in_err-kept-clause-judged : goal.returns-in_err-kept-clause-judged
-returns-in_err-kept-clause-judged g c =
-    let gives = g.I.ItemSource.gives in
-    let ahead = g.O.Outputs.gives c.args.outputs.now in
-    let n = c.args.work.now.meter.lookups in
-    let p = err_from_is_err_and c.from_residual-in_err-kept.result c.from_residual-in_err-kept.ensures.1 in
-    rw (p.1, p.2) (through_all ahead start (RestJudged (gives c.args.walker.now) c.args.computation.now.request.now c.args.computation.now.input.now n n (Err (Fault OutOfMemory))) c.requires.outputs
-    (λ outs. no_room (gives c.args.walker.now) c.args.computation.now.request.now c.args.computation.now.input.now outs n c.requires.given))
 
 pub of_watched-requires : goal.of_watched-requires
 of_watched-requires g c =
@@ -82,17 +61,6 @@ of_watched-requires g c =
       ap (λ (k : Choice). length (records_of k.cut)) c.in_ok-kept.ensures.ok,
       mapped-few c.in_ok-kept.kept.skips (records_of c.in_ok-kept.kept.cut),
     )
-
-pub returns-in_err-index-clause-judged : goal.returns-in_err-index-clause-judged
-returns-in_err-index-clause-judged g c =
-    let gives = g.I.ItemSource.gives in
-    let ahead = g.O.Outputs.gives c.args.outputs.now in
-    let n = c.args.work.now.meter.lookups in
-    let o = c.args.computation.now.request.now in
-    let files = c.args.computation.now.input.now in
-    let p = err_from_is_err_and c.from_residual-in_err-index.result c.from_residual-in_err-index.ensures.1 in
-    rw (p.1, p.2) (through_all ahead start (RestJudged (gives c.args.walker.now) o files n c.of_watched.new.meter.lookups (Err (Fault OutOfMemory))) c.requires.outputs
-    (λ outs. subst (λ (k : ℕ). RestJudged (gives c.args.walker.now) o files n k (Err (Fault OutOfMemory)) outs) (sym c.of_watched.ensures.lookups) (no_room (gives c.args.walker.now) o files outs n c.requires.given)))
 
 pub returns-in_err-index-clause-mapped : goal.returns-in_err-index-clause-mapped
 returns-in_err-index-clause-mapped g c =
@@ -125,7 +93,7 @@ returns-in_err-pairs-clause-judged g c =
     let ahead = g.O.Outputs.gives c.args.outputs.now in
     let n = c.args.work.now.meter.lookups in
     let k = c.of_watched.new.meter.lookups in
-    let m = c.check_parts.new.work.meter.lookups in
+    let m = c.check_parts.new.meter.lookups in
     let o = c.args.computation.now.request.now in
     let files = c.args.computation.now.input.now in
     let cut : Cut = c.in_ok-kept.kept.cut in
@@ -152,7 +120,7 @@ returns-clause-judged g c =
     let ahead = g.O.Outputs.gives c.args.outputs.now in
     let n = c.args.work.now.meter.lookups in
     let k = c.of_watched.new.meter.lookups in
-    let m = c.check_parts.new.work.meter.lookups in
+    let m = c.check_parts.new.meter.lookups in
     let o = c.args.computation.now.request.now in
     let files = c.args.computation.now.input.now in
     let cut : Cut = c.in_ok-kept.kept.cut in

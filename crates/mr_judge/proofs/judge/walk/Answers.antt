@@ -4,9 +4,6 @@ use Rattle.mr_certform.specs.Spelling.{version_of, items_of}
 use Rattle.mr_certform.proofs.Fuel.{items_few}
 use Rattle.mr_judge.proofs.judge.walk.Goals as goal
 
-pub returns-clause-bytes : goal.returns-clause-bytes
-returns-clause-bytes c = λ i. let b = c.type_inv.certificate i in omega arith
-
 pub returns-clause-few : goal.returns-clause-few
 unfolding items_of
 returns-clause-few c =

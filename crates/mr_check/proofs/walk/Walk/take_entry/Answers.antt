@@ -1,9 +1,9 @@
-use Rattle.std.proofs.Common.{◌≡◌, Some, Option, IfSome, ap, sym, ◌∙◌, subst}
+use Rattle.std.proofs.Common.{◌≡◌, Some, Option, IfSome, sym, ◌∙◌, subst}
 use Rattle.mr_bytes.specs.declared.Name.{Name}
 use Rattle.mr_bytes.specs.Lists.{Has}
 use Rattle.mr_certform.specs.declared.grammar_state.Item.TheVariants.{Entry}
 use Rattle.mr_judge.specs.declared.border.FoundItem.{FoundItem}
-use Rattle.mr_judge.specs.Blocks.{IsFound}
+use Rattle.mr_judge.specs.Rows.{IsFound}
 use Rattle.mr_judge.specs.Rows.{row_subject}
 use Rattle.mr_judge.proofs.JudgedRows.{row_tests_are, row_after_is}
 use Rattle.mr_verdict.specs.Verdict.{Reached}
@@ -27,7 +27,6 @@ returns-clause-taken c h =
     let tested = c.step.ensures.tested h in
     let told : IsTold k c.in-Some.told = subst (λ (o : Option Told). IfSome o (IsTold k)) c.in-Some.is c.requires.stands.told in
     record {
-      windows = ap (λ (t : Taken). t.windows) same ∙ c.in-Ok-true.ensures.windows;
       kept = λ x there. subst (λ (t : Taken). Has (claims_of t) x) (sym same) (off.kept x there);
       room = λ more all r. subst (λ (w : Reached). Room w more all) (sym tested.1) (row_room (row_subject k.request k.outputs) st row more all r);
       passed = λ holds. (let has = subst (λ (t : Taken). Has (claims_of t) (record { name = name; line = c.in-Some.told.line })) (sym same) off.put in

@@ -1,79 +1,18 @@
-use Rattle.std.proofs.Common.{arith, ap, sym, ◌∙◌, ◌≡◌, ◌<◌, ◌∷◌, List, ℕ, length, get_or, slice_range}
-use Rattle.std.proofs.lemmas.List.{get_or_default}
+use Rattle.std.proofs.Common.{[], arith, ap, sym, ◌∙◌, List, ℕ, get_or}
 use Rattle.mr_bytes.specs.declared.Value.{Value}
-use Rattle.mr_index.proofs.PairLemmas.{length-pairs, pair-at, rise-at}
+use Rattle.mr_bytes.specs.declared.Value.TheVariants.{One}
+use Rattle.mr_jobs.specs.Emissions.{Emission}
+use Rattle.mr_index.specs.Pairs.{pairs_seen}
+use Rattle.mr_index.proofs.PairLemmas.{few-ends, pair-at}
 use Rattle.mr_index.proofs.pairs.Pairs.get.Goals as goal
 
-pub start_of-start-requires : goal.start_of-start-requires
-start_of-start-requires c =
-    let p = c.args.self.now in
-    let values : List Value = p.values in
-    let few : c.args.i < length p.ends.items =
-    omega (arith, c.requires.within, length-pairs 0 p.keys.items p.ends.items values c.requires.sound.values) in
-    omega (arith, few, ap length c.as_slice.ensures.value)
-
-pub get-value-requires : goal.get-value-requires
-get-value-requires c =
-    let p = c.args.self.now in
-    omega (arith, c.requires.within, length-pairs 0 p.keys.items p.ends.items p.values c.requires.sound.values, c.requires.sound.values)
-
-pub index-requires : goal.index-requires
-index-requires c =
-    let p = c.args.self.now in
-    let values : List Value = p.values in
-    let few : c.args.i < length p.ends.items =
-    omega (arith, c.requires.within, length-pairs 0 p.keys.items p.ends.items values c.requires.sound.values) in
-    omega (arith, few, p.ends.ok.0)
-
-pub slice_bounds-result-count : goal.slice_bounds-result-count
-slice_bounds-result-count c =
-    let p = c.args.self.now in
-    let values : List Value = p.values in
-    let few : c.args.i < length p.ends.items =
-    omega (arith, c.requires.within, length-pairs 0 p.keys.items p.ends.items values c.requires.sound.values) in
-    let start : c.start_of-start.result ≡ get_or (0 ∷ p.ends.items) c.args.i 0 =
-    c.start_of-start.ensures ∙ ap (λ (l : List ℕ). get_or (0 ∷ l) c.args.i 0) c.as_slice.ensures.value in
-    let end : c.index.result.now ≡ get_or p.ends.items c.args.i 0 = c.index.ensures ∙ get_or_default p.ends.items c.args.i c.index.result.now 0 few in
-    let order = rise-at 0 (length p.keys.items) c.args.i p.ends.items c.requires.sound.rise few in
-    omega (arith, start, end, order.0, order.1, ap length c.deref.ensures.value)
-
-pub slice_bounds-result-start : goal.slice_bounds-result-start
-slice_bounds-result-start c =
-    let p = c.args.self.now in
-    let values : List Value = p.values in
-    let few : c.args.i < length p.ends.items =
-    omega (arith, c.requires.within, length-pairs 0 p.keys.items p.ends.items values c.requires.sound.values) in
-    let start : c.start_of-start.result ≡ get_or (0 ∷ p.ends.items) c.args.i 0 =
-    c.start_of-start.ensures ∙ ap (λ (l : List ℕ). get_or (0 ∷ l) c.args.i 0) c.as_slice.ensures.value in
-    let end : c.index.result.now ≡ get_or p.ends.items c.args.i 0 = c.index.ensures ∙ get_or_default p.ends.items c.args.i c.index.result.now 0 few in
-    let order = rise-at 0 (length p.keys.items) c.args.i p.ends.items c.requires.sound.rise few in
-    omega (arith, start, end, order.0, order.1, ap length c.deref.ensures.value)
-
-pub slice_bounds-result-end : goal.slice_bounds-result-end
-slice_bounds-result-end c =
-    let p = c.args.self.now in
-    let values : List Value = p.values in
-    let few : c.args.i < length p.ends.items =
-    omega (arith, c.requires.within, length-pairs 0 p.keys.items p.ends.items values c.requires.sound.values) in
-    let start : c.start_of-start.result ≡ get_or (0 ∷ p.ends.items) c.args.i 0 =
-    c.start_of-start.ensures ∙ ap (λ (l : List ℕ). get_or (0 ∷ l) c.args.i 0) c.as_slice.ensures.value in
-    let end : c.index.result.now ≡ get_or p.ends.items c.args.i 0 = c.index.ensures ∙ get_or_default p.ends.items c.args.i c.index.result.now 0 few in
-    let order = rise-at 0 (length p.keys.items) c.args.i p.ends.items c.requires.sound.rise few in
-    omega (arith, start, end, order.0, order.1, ap length c.deref.ensures.value)
+pub get-requires : goal.get-requires
+get-requires c = omega (arith, few-ends c.args.self.now c.args.i c.requires.sound c.requires.within, c.requires.sound.values)
 
 pub returns : goal.returns
 returns c =
     let p = c.args.self.now in
-    let values : List Value = p.values in
-    let few : c.args.i < length p.ends.items =
-    omega (arith, c.requires.within, length-pairs 0 p.keys.items p.ends.items values c.requires.sound.values) in
-    let start : c.start_of-start.result ≡ get_or (0 ∷ p.ends.items) c.args.i 0 =
-    c.start_of-start.ensures ∙ ap (λ (l : List ℕ). get_or (0 ∷ l) c.args.i 0) c.as_slice.ensures.value in
-    let end : c.index.result.now ≡ get_or p.ends.items c.args.i 0 = c.index.ensures ∙ get_or_default p.ends.items c.args.i c.index.result.now 0 few in
-    let order = rise-at 0 (length p.keys.items) c.args.i p.ends.items c.requires.sound.rise few in
-    ap (λ (l : List ℕ). (slice_range l c.start_of-start.result c.index.result.now, c.get-value.result)) c.deref.ensures.value
-    ∙ ap (λ (a : ℕ). (slice_range p.keys.items a c.index.result.now, c.get-value.result)) start
-    ∙ ap (λ (b : ℕ). (slice_range p.keys.items (get_or (0 ∷ p.ends.items) c.args.i 0) b, c.get-value.result)) end
-    ∙ ap (λ (v : Value). (slice_range p.keys.items (get_or (0 ∷ p.ends.items) c.args.i 0) (get_or p.ends.items c.args.i 0), v))
-    c.get-value.ensures
-    ∙ sym (pair-at 0 c.args.i p.keys.items p.ends.items values c.requires.sound.values few)
+    let e : Emission = get_or (pairs_seen p) c.args.i ([], One) in
+    let own = pair-at 0 c.args.i p.keys.items p.ends.items p.values c.requires.sound.values (few-ends p c.args.i c.requires.sound c.requires.within) in
+    ap (λ (k : List ℕ). (k, c.get.result)) c.key_at-start.ensures.key
+    ∙ ap (λ (v : Value). (e.0, v)) (c.get.ensures ∙ sym (ap (λ (f : Emission). f.1) own))

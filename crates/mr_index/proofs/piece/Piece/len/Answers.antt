@@ -11,5 +11,5 @@ returns c =
       arith,
       c.len.ensures,
       ap (λ (v : PieceView). length v.triples) c.self.view_is,
-      length-numbered p.split p.from 0 p.tables.ends.items (pairs_seen p.tables.pairs) c.self.invariant.rise,
+      length-numbered p.window.split p.window.from 0 p.tables.ends.items (pairs_seen p.tables.pairs) c.self.invariant.rise,
     )

@@ -1,1 +1,0 @@
--- From claims that are right to the verdict.

@@ -1,0 +1,6 @@
+use Rattle.std.proofs.Common.{All}
+use Rattle.mr_check.specs.Sections.{IsSmall}
+use Rattle.mr_check.proofs.guesses.guesses_of.Given as goal
+
+abbrev pub invariant-loop-section : goal.invariant-loop-section
+invariant-loop-section l = All IsSmall l.guesses.items
