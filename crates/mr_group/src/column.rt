@@ -53,7 +53,7 @@ impl KeyColumn {
         self.keys.get(self.numbers[i] as usize)
     }
 
-    /// Makes room for `more` pairs, but not for their keys. The pairs stay the same, even on failure.
+    /// Makes room for `more` pairs, but not for their keys. The pairs stay, even on failure.
     pub fn reserve(&mut self, more: usize) -> Result<(), AllocError>
         ensures { self.new ≡ self.old }
     {
@@ -77,7 +77,8 @@ impl KeyColumn {
     #[inline(always)]
     pub fn push_again(&mut self) -> Result<(), AllocError>
         requires { 0 < length self.old }
-        ensures ok { OnOk result (self.new ≡ self.old ++ key_at self.old (length self.old - 1) ∷ []) }
+        ensures ok { OnOk result
+            (self.new ≡ self.old ++ key_at self.old (length self.old - 1) ∷ []) }
         ensures err { OnErr result (self.new ≡ self.old) }
     {
         let last = self.numbers[self.numbers.len() - 1];

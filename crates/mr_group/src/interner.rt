@@ -70,7 +70,8 @@ impl Interner {
     pub fn number_of(&mut self, alloc: Global, key: &[u8]) -> Result<u32, AllocError>
         requires few { length self.old < 2 ^ 32 }
         ensures is { IfOk result (λ n. IsKeyAt self.new n key.now) }
-        ensures grows { OnOk result ((self.new ≡ self.old) ⊎ (self.new ≡ self.old ++ key.now ∷ [])) }
+        ensures grows { OnOk result
+            ((self.new ≡ self.old) ⊎ (self.new ≡ self.old ++ key.now ∷ [])) }
         ensures next { IfOk result (λ n. (self.new ≡ self.old) ⊎ (n ≡ length self.old)) }
         ensures err { OnErr result (self.new ≡ self.old) }
     {

@@ -4,7 +4,8 @@
 //!     numbers            0   1   0   2    by first appearance    interner.rt, column.rt
 //!     rows             cat dog the        by partition and key   rows.rt
 //!     ranks              2   0   2   1    of the items' keys
-//!     items a b c d    b | d | a c        by rank                counting.rt, scattering.rt
+//!     sizes              1   1   2        how many of each rank  counting.rt
+//!     items a b c d    b | d | a c        by rank                scattering.rt
 //!
 //! A key may have two numbers (`interner.rt`), but has one rank.
 //! Cost: a look-up and one move for each item, a sort of the distinct keys.

@@ -1,6 +1,6 @@
 //! A table of where a key may have been seen: prints with the numbers of their keys.
 //!
-//!     slots   [ -  (print, 2)  -  (print, 0)  (print, 1) ]    24 bytes each, a power of two of them
+//!     slots   [ -  (print, 2)  -  (print, 0)  (print, 1) ]   24 bytes each, a power of two of them
 //!
 //! A look begins at the slot that a hash of the print names, and goes on from slot to slot until it
 //! finds the key, or an empty slot, or has looked at 256. So a key of at most 16 bytes is told by

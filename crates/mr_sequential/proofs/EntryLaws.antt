@@ -104,7 +104,7 @@ module _ (part : List ℕ → ℕ) (ts : List Triple) where
       ]
 
   -- from what holds by place
-  from_places : (parts : List (List (List Name))) → ((p : ℕ) → p < length parts → AreGoodGroups part ts p (groups_at parts p)) → EachFrom (AreGoodGroups part ts) 0 parts
+  pub from_places : (parts : List (List (List Name))) → ((p : ℕ) → p < length parts → AreGoodGroups part ts p (groups_at parts p)) → EachFrom (AreGoodGroups part ts) 0 parts
   from_places parts good = each_from (AreGoodGroups part ts) [] 0 parts (λ q l. let same : q ≡ 0 + q = omega arith in subst (λ n. AreGoodGroups part ts n (get_or parts q [])) same (good q l))
 
 pub entries_are_distinct : EntriesAreDistinct

@@ -1,8 +1,6 @@
 -- Pairs stand in the order of their files, and so do the pairs of each row.
 use Rattle.std.proofs.Common.{◌≡◌, ℕ, zero, suc, ◌+◌, ◌/◌, eqb, ◌<◌, ◌≤◌, true, false, cond, not, Bool, List, [], ◌∷◌, ◌++◌, ◌∙◌, filter, map, sym, ap, subst, arith, inl, inr, All}
-use Rattle.std.proofs.lemmas.Bool.{cases_eq}
 use Rattle.std.proofs.lemmas.List.Elements.{All-head, All-tail, All-filter}
-use Rattle.std.specs.List.{zip}
 use Rattle.mr_bytes.specs.declared.Name.{Name}
 use Rattle.mr_bytes.specs.declared.RecordName.{RecordName}
 use Rattle.mr_bytes.specs.declared.Value.{Value}
@@ -14,12 +12,14 @@ use Rattle.mr_jobs.specs.Emissions.{value_at}
 use Rattle.mr_reduce.specs.Text.{file_in}
 use Rattle.mr_reduce.specs.Files.{NeverFalls, Tells}
 use Rattle.mr_reduce.specs.Writing.{IsWritable}
-use Rattle.mr_group.specs.Buckets.{bucket}
-use Rattle.mr_group.proofs.BucketLemmas.{bucket-cons, one-same, one-other}
 use Rattle.mr_splits.specs.Named.{NamedRecord, is_left_out, named_files, named_from, of_split}
 use Rattle.mr_splits.specs.Cut.{Cut, nth_named, records_of}
-use Rattle.mr_splits.specs.Kept.{kept_records}
-use Rattle.mr_sequential.specs.Names.{names_beside, names_from, record_under, value_under}
+use Rattle.mr_splits.specs.Kept.{Choice, kept_records}
+use Rattle.mr_bytes.specs.Pairs.{Triple}
+use Rattle.std.specs.Str.{bytes_eq}
+use Rattle.mr_sequential.specs.Certified.{names_with}
+use Rattle.mr_sequential.specs.Sequential.{triples_with}
+use Rattle.mr_sequential.specs.Names.{names_beside, names_by_counts, names_from, record_under, triples_of, value_under}
 use Rattle.mr_sequential.proofs.ValueLemmas.{all-found}
 
 -- the files of items never fall, and none is below the floor
@@ -39,21 +39,6 @@ module _ {X : Type 0} (file : X → ℕ) where
       elim (keep x) as (λ b. Climbs file floor (cond b (x ∷ filter keep xs) (filter keep xs))) [
         | true ↦ (up.0, later)
         | false ↦ climbs-lower floor (file x) (filter keep xs) up.0 later
-      ]
-
-  pub climbs-bucket : (i floor : ℕ) (is : List ℕ) (xs : List X) → Climbs file floor xs → Climbs file floor (bucket i (zip is xs))
-  climbs-bucket i floor [] xs up = tt
-  climbs-bucket i floor (j ∷ is) [] up = tt
-  climbs-bucket i floor (j ∷ is) (x ∷ xs) up =
-      let rest : List X = bucket i (zip is xs) in
-      let later : Climbs file (file x) rest = climbs-bucket i (file x) is xs up.1 in
-      elim (cases_eq j i) [
-        | inl e ↦
-            subst (Climbs file floor) (sym (bucket-cons i (j, x) (zip is xs) ∙ ap (λ (l : List X). l ++ rest) (one-same i (j, x) e)))
-            (up.0, later)
-        | inr ne ↦
-            subst (Climbs file floor) (sym (bucket-cons i (j, x) (zip is xs) ∙ ap (λ (l : List X). l ++ rest) (one-other i (j, x) ne)))
-            (climbs-lower floor (file x) rest up.0 later)
       ]
 
   module _ (value : X → Value) (tells : (x : X) (f : ℕ) → Has (file_in (value x)) f → f ≡ file x) where
@@ -143,15 +128,29 @@ tells-file Resources file start f h = absurd h
 tells-file (InvertedIndex keep_case) file start f (inl e) = sym e
 tells-file (InvertedIndex keep_case) file start f (inr none) = absurd none
 
--- the files of the pairs of a bucket never fall
-pub bucket-rises : (job : JobSpec) (cut : Cut) (skips : List RecordName) (counts : List ℕ) (i : ℕ) (is : List ℕ) → 0 < cut.size
-    → NeverFalls (map (value_under job (records_of cut)) (bucket i (zip is (names_beside (kept_records skips (records_of cut)) counts))))
-bucket-rises job cut skips counts i is some =
-    let all : List NamedRecord = records_of cut in
-    let beside : List Name = names_beside (kept_records skips all) counts in
+climbs-inside : {X Y : Type 0} (file : X → ℕ) (g : Y → X) (floor : ℕ) (ys : List Y) → Climbs file floor (map g ys) → Climbs (λ y. file (g y)) floor ys
+climbs-inside file g floor [] up = tt
+climbs-inside file g floor (y ∷ ys) up = (up.0, climbs-inside file g (file (g y)) ys up.1)
+
+climbs-outside : {X Y : Type 0} (file : X → ℕ) (g : Y → X) (floor : ℕ) (ys : List Y) → Climbs (λ y. file (g y)) floor ys → Climbs file floor (map g ys)
+climbs-outside file g floor [] up = tt
+climbs-outside file g floor (y ∷ ys) up = (up.0, climbs-outside file g (file (g y)) ys up.1)
+
+-- the files of the triples of a key never fall
+pub key-rises : (job : JobSpec) (choice : Choice) (counts : List ℕ) (k : List ℕ) → 0 < choice.cut.size
+    → names_by_counts choice counts ≡ map (λ (t : Triple). t.name) (triples_of job choice)
+    → NeverFalls (map (value_under job (records_of choice.cut)) (names_with (triples_of job choice) k))
+key-rises job choice counts k some is =
+    let all : List NamedRecord = records_of choice.cut in
+    let ts : List Triple = triples_of job choice in
+    let name : Triple → Name = λ t. t.name in
+    let file : Triple → ℕ = λ t. file_under all t.name in
+    let up : Climbs (file_under all) 0 (map name ts) = subst (Climbs (file_under all) 0) is (kept-climb choice.cut choice.skips counts some) in
     climbs-values (file_under all) (value_under job all)
     (λ n f h. tells-file job (record_under all n).file (record_under all n).start f h)
-    0 (bucket i (zip is beside)) (climbs-bucket (file_under all) i 0 is beside (kept-climb cut skips counts some))
+    0 (names_with ts k)
+    (climbs-outside (file_under all) name 0 (triples_with ts k)
+    (climbs-filter file (λ t. bytes_eq t.key k) 0 ts (climbs-inside (file_under all) name 0 ts up)))
 
 pub writable : (job : JobSpec) (vs : List Value) → counts job ≡ false → NeverFalls vs → IsWritable job vs
 writable job vs counting rise = record { few = λ is. absurd (let never : true ≡ false = sym is ∙ counting in cc); rising = λ is. rise }

@@ -16,13 +16,13 @@ use Rattle.mr_bytes.specs.Pairs.{Triple}
 use Rattle.mr_sequential.specs.Emitted.{emitted}
 use Rattle.mr_sequential.specs.Rules.{part}
 use Rattle.mr_sequential.specs.Sequential.{keys_of, triples_with, values_of, texts_of}
-use Rattle.mr_sequential.specs.Good.{named, key_under, key_of, text_under, IsGoodGroup, groups_at, entries_of, AreGood}
+use Rattle.mr_sequential.specs.Good.{named, key_under, key_of, text_under, AreGoodGroups, IsGoodGroup, groups_at, entries_of, AreGood}
 use Rattle.mr_sequential.specs.GoodLaws.{GoodPartsAreSequential, GoodIsSequential}
 use Rattle.mr_bytes.proofs.ListLaws.{Has-all, Has-map, Has-map_from, Has-flat_map_from, Distinct-rises, same_rising, Has-filter, Has-filter_from, Rises-filter}
 use Rattle.mr_sequential.proofs.KeyLaws.{bytes_eq-is, bytes_eq-same, keys_rise}
 use Rattle.mr_sequential.proofs.NameLaws.{names_rise}
 use Rattle.mr_sequential.proofs.NamedLaws.{triples_under, some_is, named-Has, named-of, Has-filter_map, Has-filter_map_from, triple_order, rises_by_name, triples-rise}
-use Rattle.mr_sequential.proofs.EntryLaws.{names_total, key_in_group, part_in_group, entries_are_distinct, none_is_left_out}
+use Rattle.mr_sequential.proofs.EntryLaws.{names_total, key_in_group, part_in_group, entry_is_name, from_places, entries_are_distinct, none_is_left_out}
 use Rattle.mr_group.proofs.ListLemmas.{Has-Contains, same_image}
 use Rattle.std.proofs.lemmas.List.{get_or_default}
 
@@ -74,19 +74,13 @@ module _ (part : List ℕ → ℕ) (text : List ℕ → List Value → List ℕ)
   group_ok : (n : Name) (q : ℕ) (g : List Name) → StandsIn n q g → IsGoodGroup part ts q g
   group_ok n q g s = Has-all (IsGoodGroup part ts q) (groups_at parts q) g (good.each q s.below).groups.each s.here
 
-  -- each entry names a triple's name
-  entry_is_name : (n : Name) → Has (entries_of parts) n → Has (map (λ (t : Triple). t.name) ts) n
-  entry_is_name n h =
-      let s = stands n h in
-      let t = entry_named s.0 s.1 n (group_ok n s.0 s.1 s.2) s.2.entry in
-      let r = named-Has ts n t.0 t.1 in
-      subst (Has (map (λ (u : Triple). u.name) ts)) r.1 (Has-map (λ (u : Triple). u.name) ts t.0 r.0)
-
   -- no triple is left out
   triple_stands : (t : Triple) → Has ts t → (q : ℕ) × (g : List Name) × StandsIn t.name q g
   triple_stands t h =
+      let groups : (p : ℕ) → p < length parts → AreGoodGroups part ts p (groups_at parts p) = λ p l. (good.each p l).groups in
       stands t.name
-      (none_is_left_out ts (entries_of parts) (entries_are_distinct part ts parts (λ p l. (good.each p l).groups)) entry_is_name good.none_left_out t.name
+      (none_is_left_out ts (entries_of parts) (entries_are_distinct part ts parts groups) (entry_is_name part ts 0 parts (from_places part ts parts groups))
+      good.none_left_out t.name
       (Has-map (λ (u : Triple). u.name) ts t h))
 
   -- it stands in the partition and in the group of its key

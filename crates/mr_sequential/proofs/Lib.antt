@@ -11,7 +11,6 @@ pub mod NameLaws
 pub mod NamedLaws
 pub mod OrderLemmas
 pub mod RankLemmas
-pub mod RankedGroups
 pub mod SkipLaws
 pub mod SourceLemmas
 pub mod TextLemmas

@@ -12,12 +12,12 @@ use Rattle.mr_bytes.specs.Lists.{Rises}
 use Rattle.mr_bytes.specs.Order.{record_order}
 use Rattle.mr_splits.specs.Named.{NamedRecord, named_records}
 use Rattle.mr_splits.specs.Cut.{is_record}
-use Rattle.mr_splits.specs.Kept as kept
+use Rattle.mr_splits.specs.Kept.{first_fault, is_past}
 use Rattle.mr_splits.specs.declared.kept_records.SkipFault.{SkipFault}
 use Rattle.mr_splits.specs.declared.kept_records.SkipFault.TheVariants as split
 use Rattle.mr_sequential.specs.declared.sequence.RunFault.{RunFault}
 use Rattle.mr_sequential.specs.declared.sequence.RunFault.TheVariants.{NoSuchRecord, SkipOrder, TooManySkips}
-use Rattle.mr_sequential.specs.Skips.{is_past, list_fault, GoodSkips}
+use Rattle.mr_sequential.specs.Skips.{list_fault, GoodSkips}
 
 record_total : IsTotalOrder record_order
 record_total = then_total (on_total (λ (a : RecordName). a.split) nat_cmp_total) (on_total (λ (a : RecordName). a.rec) nat_cmp_total)
@@ -104,18 +104,13 @@ told (Some split.TooMany) = Some TooManySkips
 told (Some split.Order) = Some SkipOrder
 told (Some split.NoSuchRecord) = Some NoSuchRecord
 
-past-same : (before : Option RecordName) (name : RecordName) → kept.is_past before name ≡ is_past before name
-past-same None name = refl
-past-same (Some before) name = refl
-
-pub told-first : (rs : List NamedRecord) (before : Option RecordName) (names : List RecordName) → told (kept.first_fault rs before names) ≡ list_fault rs before names
+pub told-first : (rs : List NamedRecord) (before : Option RecordName) (names : List RecordName) → told (first_fault rs before names) ≡ list_fault rs before names
 told-first rs before [] = refl
 told-first rs before (name ∷ names) =
-    ap (λ t. told (cond t (cond (is_record rs name) (kept.first_fault rs (Some name) names) (Some split.NoSuchRecord)) (Some split.Order))) (past-same before name)
-    ∙ by (is_past before name) (is_record rs name) (told-first rs (Some name) names)
+    by (is_past before name) (is_record rs name) (told-first rs (Some name) names)
   where
-    by : (p e : Bool) → told (kept.first_fault rs (Some name) names) ≡ list_fault rs (Some name) names
-        → told (cond p (cond e (kept.first_fault rs (Some name) names) (Some split.NoSuchRecord)) (Some split.Order))
+    by : (p e : Bool) → told (first_fault rs (Some name) names) ≡ list_fault rs (Some name) names
+        → told (cond p (cond e (first_fault rs (Some name) names) (Some split.NoSuchRecord)) (Some split.Order))
         ≡ cond p (cond e (list_fault rs (Some name) names) (Some NoSuchRecord)) (Some SkipOrder)
     by false e h = refl
     by true false h = refl

@@ -1,12 +1,10 @@
 -- Records one after another, and how many pairs they give.
-use Rattle.std.proofs.Common.{◌≡◌, ℕ, suc, ◌+◌, ◌/◌, ◌≤◌, ◌^◌, cond, not, true, false, List, [], ◌∷◌, ◌++◌, length, refl, sym, ◌∙◌, ap, arith, append_assoc, map, filter, eqb}
+use Rattle.std.proofs.Common.{◌≡◌, ℕ, ◌+◌, ◌/◌, ◌≤◌, ◌^◌, cond, not, true, false, List, [], ◌∷◌, ◌++◌, length, refl, sym, ◌∙◌, ap, arith, append_assoc, map, eqb}
 use Rattle.std.proofs.lemmas.List.{map-append, append-nil, length-append, length-map}
 use Rattle.std.proofs.lemmas.List.Sums.{sum_by-cons}
-use Rattle.std.specs.List.{flat_map, zip}
-use Rattle.std.specs.Str.{bytes_eq}
+use Rattle.std.specs.List.{flat_map}
 use Rattle.mr_bytes.specs.declared.Name.{Name}
 use Rattle.mr_bytes.specs.declared.RecordName.{RecordName}
-use Rattle.mr_bytes.specs.declared.Value.{Value}
 use Rattle.mr_records.specs.Records.{Record, lengthen, records_from, records}
 use Rattle.mr_input.specs.Files.{split_count, total_size}
 use Rattle.mr_jobs.specs.JobSpec.{JobSpec, RequestSpec}
@@ -16,36 +14,51 @@ use Rattle.mr_splits.specs.Named.{NamedRecord, is_left_out, named_from, named_fi
 use Rattle.mr_splits.specs.Kept.{kept_records}
 use Rattle.mr_bytes.specs.Pairs.{Triple}
 use Rattle.mr_sequential.specs.Emitted.{placed_from, record_triples, emitted}
-use Rattle.mr_sequential.specs.Names.{names_from, names_beside, kept_names, pair_count, record_names}
-use Rattle.mr_sequential.specs.Certified.{names_with, groups_of}
-use Rattle.mr_sequential.specs.Pairs.{kept_pairs, record_keys, record_pairs, values_in, texts_in, names_under, groups_in}
-use Rattle.mr_sequential.specs.Sequential.{keys_of, texts_of, values_of}
+use Rattle.mr_sequential.specs.Names.{names_from, names_beside, pair_count, record_names}
+use Rattle.mr_sequential.specs.Pairs.{kept_pairs, record_keys}
 pub use Rattle.std.proofs.lemmas.List.Concat.{flat_map-append}
 
--- a list of what is kept gives the same as one in which what is left out gives nothing
-kept-flat : {Y : Type 0} (f : NamedRecord → List Y) (skips : List RecordName) (rs : List NamedRecord)
-    → flat_map f (kept_records skips rs) ≡ flat_map (λ r. cond (is_left_out skips r.name) [] (f r)) rs
-kept-flat f skips [] = refl
-kept-flat {Y} f skips (r ∷ rs) =
-    let later : List Y = flat_map (λ (x : NamedRecord). cond (is_left_out skips x.name) [] (f x)) rs in
-    elim (is_left_out skips r.name) as (λ t. flat_map f (cond (not t) (r ∷ kept_records skips rs) (kept_records skips rs)) ≡ cond t [] (f r) ++ later) [
-      | true ↦ kept-flat f skips rs
-      | false ↦ ap (λ (l : List Y). f r ++ l) (kept-flat f skips rs)
+-- what is made of kept records is made of all triples, where it is made of the triples of each
+kept-triples : {Y : Type 0} (g : Triple → Y) (f : NamedRecord → List Y) (job : JobSpec) (skips : List RecordName)
+    → ((r : NamedRecord) → f r ≡ map g (placed_from r.name 0 (emissions job r.file r.start r.bytes)))
+    → (rs : List NamedRecord) → flat_map f (kept_records skips rs) ≡ map g (flat_map (record_triples job skips) rs)
+kept-triples g f job skips each [] = refl
+kept-triples {Y} g f job skips each (r ∷ rs) =
+    let ts : List Triple = placed_from r.name 0 (emissions job r.file r.start r.bytes) in
+    let kept : List NamedRecord = kept_records skips rs in
+    let later : List Triple = flat_map (record_triples job skips) rs in
+    elim (is_left_out skips r.name) as (λ t. flat_map f (cond (not t) (r ∷ kept) kept) ≡ map g (cond t [] ts ++ later)) [
+      | true ↦ kept-triples g f job skips each rs
+      | false ↦
+          ap (λ (l : List Y). l ++ flat_map f kept) (each r) ∙ ap (λ (l : List Y). map g ts ++ l) (kept-triples g f job skips each rs)
+          ∙ sym (map-append g ts later)
     ]
 
-pub kept-pairs : (job : JobSpec) (skips : List RecordName) (rs : List NamedRecord)
-    → flat_map (record_pairs job) (kept_records skips rs) ≡ flat_map (kept_pairs job skips) rs
-kept-pairs job skips rs = kept-flat (record_pairs job) skips rs
+placed-keys : (name : RecordName) (place : ℕ) (es : List Emission) → map (λ (e : Emission). e.0) es ≡ map (λ (t : Triple). t.key) (placed_from name place es)
+unfolding placed_from
+placed-keys name place [] = refl
+placed-keys name place (e ∷ es) = ap (λ l. e.0 ∷ l) (placed-keys name (place + 1) es)
 
--- the keys of what records give
-keys-flat : (job : JobSpec) (rs : List NamedRecord) → flat_map (record_keys job) rs ≡ map (λ (e : Emission). e.0) (flat_map (record_pairs job) rs)
-keys-flat job [] = refl
-keys-flat job (r ∷ rs) =
-    ap (λ l. record_keys job r ++ l) (keys-flat job rs) ∙ sym (map-append (λ (e : Emission). e.0) (record_pairs job r) (flat_map (record_pairs job) rs))
+placed-names : (name : RecordName) (place : ℕ) (es : List Emission) → names_from name place (length es) ≡ map (λ (t : Triple). t.name) (placed_from name place es)
+unfolding placed_from names_from
+placed-names name place [] = refl
+placed-names name place (e ∷ es) = ap (λ l. record { split = name.split; rec = name.rec; place = place } ∷ l) (placed-names name (place + 1) es)
+
+-- each record beside how many it gives
+beside-counts : (job : JobSpec) (rs : List NamedRecord) → names_beside rs (map (pair_count job) rs) ≡ flat_map (record_names job) rs
+beside-counts job [] = refl
+beside-counts job (r ∷ rs) = ap (λ (l : List Name). record_names job r ++ l) (beside-counts job rs)
 
 pub kept-keys : (job : JobSpec) (skips : List RecordName) (rs : List NamedRecord)
-    → flat_map (record_keys job) (kept_records skips rs) ≡ map (λ (e : Emission). e.0) (flat_map (kept_pairs job skips) rs)
-kept-keys job skips rs = keys-flat job (kept_records skips rs) ∙ ap (map (λ (e : Emission). e.0)) (kept-pairs job skips rs)
+    → flat_map (record_keys job) (kept_records skips rs) ≡ map (λ (t : Triple). t.key) (flat_map (record_triples job skips) rs)
+kept-keys job skips rs =
+    kept-triples (λ (t : Triple). t.key) (record_keys job) job skips (λ r. placed-keys r.name 0 (emissions job r.file r.start r.bytes)) rs
+
+pub kept-names : (job : JobSpec) (skips : List RecordName) (rs : List NamedRecord)
+    → names_beside (kept_records skips rs) (map (pair_count job) (kept_records skips rs)) ≡ map (λ (t : Triple). t.name) (flat_map (record_triples job skips) rs)
+kept-names job skips rs =
+    beside-counts job (kept_records skips rs)
+    ∙ kept-triples (λ (t : Triple). t.name) (record_names job) job skips (λ r. placed-names r.name 0 (emissions job r.file r.start r.bytes)) rs
 
 -- one more of the records
 pub next_gathered : {Y : Type 0} (f : NamedRecord → List Y) (old now given all : List Y) (left later : List NamedRecord) (r : NamedRecord)
@@ -161,92 +174,10 @@ all-pairs job skips (r ∷ rs) =
     ∙ ap (λ l. l ++ map pair_of (flat_map (record_triples job skips) rs)) (record-pairs job skips r)
     ∙ ap (λ l. kept_pairs job skips r ++ l) (all-pairs job skips rs)
 
-pub emitted-pairs : (request : RequestSpec) (files : List (List ℕ)) (skips : List RecordName)
-    → map pair_of (emitted request.job request.split files skips) ≡ flat_map (kept_pairs request.job skips) (named_records request.split files)
-emitted-pairs request files skips = all-pairs request.job skips (named_records request.split files)
+pub triple-count : (job : JobSpec) (skips : List RecordName) (rs : List NamedRecord)
+    → length (flat_map (kept_pairs job skips) rs) ≡ length (flat_map (record_triples job skips) rs)
+triple-count job skips rs = ap length (sym (all-pairs job skips rs)) ∙ length-map (flat_map (record_triples job skips) rs) pair_of
 
 pub emitted-count : (request : RequestSpec) (files : List (List ℕ)) (skips : List RecordName)
     → length (flat_map (kept_pairs request.job skips) (named_records request.split files)) ≡ length (emitted request.job request.split files skips)
-emitted-count request files skips = ap length (sym (emitted-pairs request files skips)) ∙ length-map (emitted request.job request.split files skips) pair_of
-
-pub triple-keys : (ts : List Triple) → map (λ (e : Emission). e.0) (map pair_of ts) ≡ map (λ (t : Triple). t.key) ts
-triple-keys [] = refl
-triple-keys (t ∷ ts) = ap (λ l. t.key ∷ l) (triple-keys ts)
-
-triple-values : (k : List ℕ) (ts : List Triple) → values_in (map pair_of ts) k ≡ values_of ts k
-triple-values k [] = refl
-triple-values k (t ∷ ts) =
-    elim (bytes_eq t.key k) as (λ b. map (λ (e : Emission). e.1) (cond b (pair_of t ∷ filter (λ (e : Emission). bytes_eq e.0 k) (map pair_of ts)) (filter (λ (e : Emission). bytes_eq e.0 k) (map pair_of ts)))
-    ≡ map (λ (x : Triple). x.value) (cond b (t ∷ filter (λ (x : Triple). bytes_eq x.key k) ts) (filter (λ (x : Triple). bytes_eq x.key k) ts))) [
-      | true ↦ ap (λ l. t.value ∷ l) (triple-values k ts)
-      | false ↦ triple-values k ts
-    ]
-
--- texts by pairs are texts by triples
-pub texts-triples : (part : List ℕ → ℕ) (text : List ℕ → List Value → List ℕ) (ts : List Triple) (p : ℕ) → texts_in part text (map pair_of ts) p ≡ texts_of (record { part = part; text = text }) ts p
-texts-triples part text ts p =
-    ap (λ ks. flat_map (λ k. text k (values_in (map pair_of ts) k)) (keys_of part ks p)) (triple-keys ts)
-    ∙ (λ i. flat_map (λ k. text k (triple-values k ts i)) (keys_of part (map (λ (t : Triple). t.key) ts) p))
-
--- ---- the names of what records give
-
-pub placed-names : (name : RecordName) (place : ℕ) (es : List Emission) → map (λ (t : Triple). t.name) (placed_from name place es) ≡ names_from name place (length es)
-unfolding placed_from names_from
-placed-names name place [] = refl
-placed-names name place (e ∷ es) = ap (λ l. record { split = name.split; rec = name.rec; place = place } ∷ l) (placed-names name (place + 1) es)
-
-kept-name : (job : JobSpec) (skips : List RecordName) (r : NamedRecord)
-    → cond (is_left_out skips r.name) [] (record_names job r) ≡ kept_names job skips r
-kept-name job skips r =
-    let es : List Emission = emissions job r.file r.start r.bytes in
-    elim (is_left_out skips r.name) as (λ t. cond t [] (names_from r.name 0 (length es)) ≡ map (λ (x : Triple). x.name) (cond t [] (placed_from r.name 0 es))) [
-      | true ↦ refl
-      | false ↦ sym (placed-names r.name 0 es)
-    ]
-
--- each record beside how many it gives
-pub beside-counts : (job : JobSpec) (rs : List NamedRecord) → names_beside rs (map (pair_count job) rs) ≡ flat_map (record_names job) rs
-beside-counts job [] = refl
-beside-counts job (r ∷ rs) = ap (λ (l : List Name). record_names job r ++ l) (beside-counts job rs)
-
-pub kept-names : (job : JobSpec) (skips : List RecordName) (rs : List NamedRecord)
-    → flat_map (record_names job) (kept_records skips rs) ≡ flat_map (kept_names job skips) rs
-kept-names job skips rs = kept-flat (record_names job) skips rs ∙ each rs
-  where
-    each : (xs : List NamedRecord) → flat_map (λ (r : NamedRecord). cond (is_left_out skips r.name) [] (record_names job r)) xs ≡ flat_map (kept_names job skips) xs
-    each [] = refl
-    each (x ∷ xs) =
-        ap (λ (l : List Name). l ++ flat_map (λ (r : NamedRecord). cond (is_left_out skips r.name) [] (record_names job r)) xs) (kept-name job skips x)
-        ∙ ap (λ (l : List Name). kept_names job skips x ++ l) (each xs)
-
-all-names : (job : JobSpec) (skips : List RecordName) (rs : List NamedRecord)
-    → map (λ (t : Triple). t.name) (flat_map (record_triples job skips) rs) ≡ flat_map (kept_names job skips) rs
-all-names job skips [] = refl
-all-names job skips (r ∷ rs) =
-    map-append (λ (t : Triple). t.name) (record_triples job skips r) (flat_map (record_triples job skips) rs)
-    ∙ ap (λ l. kept_names job skips r ++ l) (all-names job skips rs)
-
-pub emitted-names : (request : RequestSpec) (files : List (List ℕ)) (skips : List RecordName)
-    → map (λ (t : Triple). t.name) (emitted request.job request.split files skips) ≡ flat_map (kept_names request.job skips) (named_records request.split files)
-emitted-names request files skips = all-names request.job skips (named_records request.split files)
-
--- the names of a key's pairs are those of its triples
-triple-names : (k : List ℕ) (ts : List Triple) → names_under (map (λ (t : Triple). t.key) ts) (map (λ (t : Triple). t.name) ts) k ≡ names_with ts k
-triple-names k [] = refl
-triple-names k (t ∷ ts) =
-    let es : List (List ℕ × Name) = filter (λ (e : List ℕ × Name). bytes_eq e.0 k) (zip (map (λ (x : Triple). x.key) ts) (map (λ (x : Triple). x.name) ts)) in
-    let xs : List Triple = filter (λ (x : Triple). bytes_eq x.key k) ts in
-    elim (bytes_eq t.key k) as (λ b. map (λ (e : List ℕ × Name). e.1) (cond b ((t.key, t.name) ∷ es) es) ≡ map (λ (x : Triple). x.name) (cond b (t ∷ xs) xs)) [
-      | true ↦ ap (λ l. t.name ∷ l) (triple-names k ts)
-      | false ↦ triple-names k ts
-    ]
-
--- groups by keys and names are groups by triples
-pub groups-triples : (part : List ℕ → ℕ) (ts : List Triple) (ps : List ℕ)
-    → map (groups_in part (map (λ (t : Triple). t.key) ts) (map (λ (t : Triple). t.name) ts)) ps ≡ map (groups_of part ts) ps
-groups-triples part ts ps = λ i. map (λ p. map (λ k. triple-names k ts i) (keys_of part (map (λ (t : Triple). t.key) ts) p)) ps
-
--- as many names as keys
-pub even_lists : (ts : List Triple) → length (map (λ (t : Triple). t.name) ts) ≡ length (map (λ (t : Triple). t.key) ts)
-even_lists [] = refl
-even_lists (t ∷ ts) = ap suc (even_lists ts)
+emitted-count request files skips = triple-count request.job skips (named_records request.split files)

@@ -1,5 +1,7 @@
 -- The certificate of a good result is that of the sequential execution.
-use Rattle.std.proofs.Common.{◌≡◌, ℕ, suc, ◌+◌, ◌<◌, List, [], ◌∷◌, length, map, get_or, refl, ap, sym, ◌∙◌, inl, inr, arith, Option, None, Some, IsSome}
+use Rattle.std.proofs.Common.{◌≡◌, ℕ, ◌<◌, List, [], ◌∷◌, length, map, refl, ap, sym, ◌∙◌, inl, inr, arith, Option, None, Some, IsSome}
+use Rattle.std.proofs.lemmas.List.{ext_get_or}
+use Rattle.std.proofs.lemmas.List.FromFn.{get_or-map-range_with_len, length-map-range_with_len}
 use Rattle.std.specs.List.{AllByRecursion, cons_option, range_with_len}
 use Rattle.mr_bytes.specs.declared.Name.{Name}
 use Rattle.mr_bytes.specs.declared.Value.{Value}
@@ -32,15 +34,6 @@ remade : {X Y : Type 0} (f : X → Y) (g : Y → X) (xs : List X) → ((x : X) �
 remade f g [] same = refl
 remade f g (x ∷ xs) same = let here = same x (inl refl) in let rest = remade f g xs (λ y h. same y (inr h)) in λ i. here i ∷ rest i
 
--- a list by its length and each of its elements
-by_places : {X : Type 0} (f : ℕ → X) (d : X) (a : ℕ) (xs : List X) → ((q : ℕ) → q < length xs → get_or xs q d ≡ f (a + q)) → xs ≡ map f (range_with_len a (length xs))
-by_places f d a [] same = refl
-by_places f d a (x ∷ xs) same =
-    let zero_a : a + 0 ≡ a = omega arith in
-    let here : x ≡ f a = same 0 (omega arith) ∙ ap f zero_a in
-    let rest = by_places f d (a + 1) xs (λ q l. let next : a + suc q ≡ a + 1 + q = omega arith in same (suc q) (omega (arith, l)) ∙ ap f next) in
-    λ i. here i ∷ rest i
-
 module _ (part : List ℕ → ℕ) (text : List ℕ → List Value → List ℕ) (ts : List Triple) (parts : List (List (List Name))) (outputs : List (List ℕ)) (rise : Rises name_order (map (λ (t : Triple). t.name) ts)) (good : AreGood (record { part = part; text = text }) ts parts outputs) where
   pub part_is : (p : ℕ) → p < length parts → groups_at parts p ≡ groups_of part ts p
   part_is p lt =
@@ -50,7 +43,9 @@ module _ (part : List ℕ → ℕ) (text : List ℕ → List Value → List ℕ)
       ∙ ap (map (names_with ts)) (keys_are part text ts parts outputs rise good p lt)
 
   pub parts_are : parts ≡ map (groups_of part ts) (range_with_len 0 (length parts))
-  parts_are = by_places (groups_of part ts) [] 0 parts (λ q l. let same : q ≡ 0 + q = omega arith in part_is q l ∙ ap (groups_of part ts) same)
+  parts_are =
+      ext_get_or [] parts (map (groups_of part ts) (range_with_len 0 (length parts))) (sym (length-map-range_with_len (groups_of part ts) 0 (length parts)))
+      (λ q l. part_is q l ∙ sym (get_or-map-range_with_len (groups_of part ts) 0 (length parts) q q [] l (omega arith)))
 
 pub certificate_is_sequential : CertificateIsSequential
 certificate_is_sequential request files outputs c some good =

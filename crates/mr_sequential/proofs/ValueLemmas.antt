@@ -21,7 +21,7 @@ use Rattle.mr_splits.proofs.NameLemmas.{none-past}
 use Rattle.mr_splits.proofs.NumberLemmas.{numbers-count}
 use Rattle.mr_sequential.specs.Emitted.{emitted, placed_from, record_triples}
 use Rattle.mr_sequential.specs.Names.{names_from, names_beside, IsOfRecord, value_under}
-use Rattle.mr_sequential.specs.Pairs.{valued}
+use Rattle.mr_bytes.specs.declared.Name.{Name}
 use Rattle.mr_group.proofs.ListLemmas.{Has-at, Has-Contains}
 use Rattle.mr_sequential.proofs.SourceLemmas.{pair_of}
 
@@ -121,25 +121,33 @@ module _ (job : JobSpec) (all : List NamedRecord) where
       ∙ ap (λ l. map (λ (t : Triple). t.value) (record_triples job skips r) ++ l) later
       ∙ sym (map-append (λ (t : Triple). t.value) (record_triples job skips r) (flat_map (record_triples job skips) rs))
 
-  -- keys, and names with the values that they tell, are pairs
-  told-pairs : (ts : List Triple) → map told ts ≡ map (λ (t : Triple). t.value) ts
-      → valued job all (map (λ (t : Triple). t.key) ts) (map (λ (t : Triple). t.name) ts) ≡ map pair_of ts
-  unfolding told
-  told-pairs ts same =
-      ap (λ l. zip (map (λ (t : Triple). t.key) ts) l) (map-twice ts ∙ same) ∙ beside ts
-    where
-      map-twice : (us : List Triple) → map (value_under job all) (map (λ (t : Triple). t.name) us) ≡ map (λ (t : Triple). value_under job all t.name) us
-      map-twice [] = refl
-      map-twice (u ∷ us) = ap (λ l. value_under job all u.name ∷ l) (map-twice us)
+-- each triple has the value that its name tells
+pub told-each : (job : JobSpec) (size : ℕ) (files : List (List ℕ)) (skips : List RecordName) → 0 < size
+    → All (λ (t : Triple). value_under job (named_records size files) t.name ≡ t.value) (emitted job size files skips)
+unfolding told
+told-each job size files skips some k d h =
+    let all : List NamedRecord = named_records size files in
+    let ts : List Triple = emitted job size files skips in
+    sym (get_or-map (told job all) ts k d d.value h)
+    ∙ ap (λ (l : List Value). get_or l k d.value) (records-told job all skips all (λ i r less. (all-found size files some i r less).found))
+    ∙ get_or-map (λ (t : Triple). t.value) ts k d d.value h
 
-      beside : (us : List Triple) → zip (map (λ (t : Triple). t.key) us) (map (λ (t : Triple). t.value) us) ≡ map pair_of us
-      beside [] = refl
-      beside (u ∷ us) = ap (λ l. (u.key, u.value) ∷ l) (beside us)
+pub told-values : (f : Name → Value) (ts : List Triple) → All (λ (t : Triple). f t.name ≡ t.value) ts
+    → map f (map (λ (t : Triple). t.name) ts) ≡ map (λ (t : Triple). t.value) ts
+told-values f [] all = refl
+told-values f (t ∷ ts) all =
+    ap (λ (v : Value). v ∷ map f (map (λ (u : Triple). u.name) ts)) (All-head (λ (u : Triple). f u.name ≡ u.value) t ts all)
+    ∙ ap (λ (l : List Value). t.value ∷ l) (told-values f ts (All-tail (λ (u : Triple). f u.name ≡ u.value) t ts all))
 
--- the pairs of all triples, told by keys and names alone
+-- keys, and names with the values that they tell, are pairs
 pub emitted-valued : (job : JobSpec) (size : ℕ) (files : List (List ℕ)) (skips : List RecordName) → 0 < size
-    → valued job (named_records size files) (map (λ (t : Triple). t.key) (emitted job size files skips)) (map (λ (t : Triple). t.name) (emitted job size files skips))
+    → zip (map (λ (t : Triple). t.key) (emitted job size files skips))
+    (map (value_under job (named_records size files)) (map (λ (t : Triple). t.name) (emitted job size files skips)))
     ≡ map pair_of (emitted job size files skips)
 emitted-valued job size files skips some =
-    told-pairs job (named_records size files) (emitted job size files skips)
-    (records-told job (named_records size files) skips (named_records size files) (λ k d h. (all-found size files some k d h).found))
+    let ts : List Triple = emitted job size files skips in
+    ap (zip (map (λ (t : Triple). t.key) ts)) (told-values (value_under job (named_records size files)) ts (told-each job size files skips some)) ∙ beside ts
+  where
+    beside : (us : List Triple) → zip (map (λ (t : Triple). t.key) us) (map (λ (t : Triple). t.value) us) ≡ map pair_of us
+    beside [] = refl
+    beside (u ∷ us) = ap (λ l. (u.key, u.value) ∷ l) (beside us)

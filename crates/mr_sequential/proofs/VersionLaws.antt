@@ -44,7 +44,7 @@ can_part : (version : Version) (part : Key → ℕ) (ts : List Triple) (p : ℕ)
 can_part version part ts p [] good = tt
 can_part version part ts p (ns ∷ gs) good = (can_group version ns good.0.names_rise, can_part version part ts p gs good.1)
 
-by_places : {X : Type 0} (P : X → Type 0) (d : X) (xs : List X) → ((i : ℕ) → i < length xs → P (slice_index_or xs i d)) → AllByRecursion P xs
+pub by_places : {X : Type 0} (P : X → Type 0) (d : X) (xs : List X) → ((i : ℕ) → i < length xs → P (slice_index_or xs i d)) → AllByRecursion P xs
 by_places P d [] each = tt
 by_places P d (x ∷ xs) each = (each 0 (omega arith), by_places P d xs (λ i l. each (suc i) (omega (arith, l))))
 

@@ -2,9 +2,9 @@
 use Rattle.std.specs.Prelude.{ℕ, ◌==◌, if◌then◌else◌, List, [], ◌∷◌, map, filter}
 use Rattle.std.specs.List.{flat_map}
 use Rattle.std.specs.Str.{bytes_eq}
-use Rattle.std.specs.Ordering.{match_ordering}
 use Rattle.mr_bytes.specs.declared.RecordName.{RecordName}
 use Rattle.mr_bytes.specs.declared.Value.{Value}
+use Rattle.mr_bytes.specs.Lists.{placed}
 use Rattle.mr_bytes.specs.Order.{key_order}
 use Rattle.mr_jobs.specs.JobSpec.{RequestSpec}
 use Rattle.mr_bytes.specs.Pairs.{Triple}
@@ -13,8 +13,7 @@ use Rattle.mr_sequential.specs.Rules.{Key, Text, Rules, rules_of}
 
 -- a key put at its place among rising keys, where it isn't there yet
 abbrev pub with_key : Key → List Key → List Key
-with_key k [] = k ∷ []
-with_key k (x ∷ xs) = match_ordering (key_order k x) (k ∷ x ∷ xs) (x ∷ xs) (x ∷ with_key k xs)
+with_key k keys = placed key_order k keys
 
 -- of keys, those of a partition, rising, each once; `part` gives each key its partition
 abbrev pub keys_of : (Key → ℕ) → List Key → ℕ → List Key

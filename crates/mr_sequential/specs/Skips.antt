@@ -1,20 +1,15 @@
 -- The faults of a list of left-out records, in the order in which they are tested.
-use Rattle.std.specs.Prelude.{◌≡◌, ◌↔◌, ℕ, ◌≤◌, nat_lt, Bool, true, if◌then◌else◌, Option, None, Some, List, [], ◌∷◌, length, IsTrue}
+use Rattle.std.specs.Prelude.{◌≡◌, ◌↔◌, ℕ, ◌≤◌, nat_lt, if◌then◌else◌, Option, None, Some, List, [], ◌∷◌, length, IsTrue}
 use Rattle.std.specs.List.{AllByRecursion}
-use Rattle.std.specs.Ordering.{is_lt}
 use Rattle.mr_bytes.specs.declared.RecordName.{RecordName}
 use Rattle.mr_bytes.specs.Lists.{Rises}
 use Rattle.mr_bytes.specs.Order.{record_order}
 use Rattle.mr_jobs.specs.JobSpec.{RequestSpec}
 use Rattle.mr_splits.specs.Named.{NamedRecord, named_records}
 use Rattle.mr_splits.specs.Cut.{is_record}
+use Rattle.mr_splits.specs.Kept.{is_past}
 use Rattle.mr_sequential.specs.declared.sequence.RunFault.{RunFault}
 use Rattle.mr_sequential.specs.declared.sequence.RunFault.TheVariants.{NoSuchRecord, SkipOrder, TooManySkips}
-
--- the name is past the one before it
-abbrev pub is_past : Option RecordName → RecordName → Bool
-is_past None name = true
-is_past (Some before) name = is_lt (record_order before name)
 
 -- each name in turn: its order before its existence
 abbrev pub list_fault : List NamedRecord → Option RecordName → List RecordName → Option RunFault

@@ -1,12 +1,12 @@
 //! Executes a job from a request and an input to the outputs; its faults, and laws of good results.
 ghost use Rattle.std.specs.Prelude.{◌≡◌, ◌↔◌, ℕ, ◌≤◌, ◌<◌, ◌^◌, ◌⊎◌, IfOk, OnOk, IfErr, IfSome};
 ghost use Rattle.std.specs.Prelude.{◌≢◌, None, Some, length, map};
-ghost use Rattle.mr_certform.specs.Flat.{AreCounted, chunks};
 ghost use Rattle.mr_input.specs.Files.{contents, nth_file, split_total};
 ghost use Rattle.mr_jobs.specs.JobSpec.{flags_of, job_literal, job_number};
 ghost use Rattle.mr_splits.specs.Cut.{records_of};
 ghost use Rattle.mr_sequential.specs.Certified.{certificate_of};
 ghost use Rattle.mr_sequential.specs.Good.{IsGood};
+ghost use Rattle.mr_sequential.specs.Rows.{AreOutputs};
 ghost use Rattle.mr_sequential.specs.Sequential.{sequential};
 ghost use Rattle.mr_sequential.specs.Skips.{list_fault, skip_fault};
 ghost use Rattle.mr_sequential.specs.GoodLaws.{EntriesAreDistinct, NoMoreEntries, NoneIsLeftOut};
@@ -15,7 +15,7 @@ ghost use Rattle.mr_sequential.specs.GoodLaws.{SequentialIsGood, CertificateIsSe
 ghost use Rattle.mr_sequential.specs.GoodLaws.{CertificateIsUnique, WorkedGroups, WorkedOutput};
 
 use crate::outputs::outputs;
-use crate::source::{Emitted, gather};
+use crate::source::gather;
 use mr_bytes::{Phase, Progress, RecordName, Unwatched};
 use mr_certform::{Certificate, FlatGroups, Header};
 use mr_input::Input;
@@ -42,9 +42,9 @@ pub enum RunFault {
 }
 
 impl From<AllocError> for RunFault {
-    ghost use Rattle.mr_sequential.specs.declared.sequence.RunFault.TheVariants.{OutOfMemory as told_memory};
+    ghost use Rattle.mr_sequential.specs.declared.sequence.RunFault.{RunFault};
 
-    ghost from_gives = { λ _ f. f ≡ told_memory };
+    ghost from_gives = { λ _ f. f ≡ RunFault.OutOfMemory };
 
     fn from(_fault: AllocError) -> RunFault {
         RunFault::OutOfMemory
@@ -65,7 +65,8 @@ fn fault_of(plan: &Plan<'_>, skips: &[RecordName]) -> Option<RunFault>
 
 fn plan_of<'a>(alloc: Global, request: &Request, input: &'a Input) -> Result<Plan<'a>, AllocError>
     requires { split_total request.now.split input.now ≤ 2 ^ 20 }
-    ensures plan { IfOk result (λ r. r ≡ record { size = request.now.split; files = input.entry.now }) }
+    ensures plan { IfOk result
+        (λ r. r ≡ record { size = request.now.split; files = input.entry.now }) }
     ensures some { IfOk result (λ r. 0 < r.size) }
 {
     Plan::new_fitting(alloc, input, request.split_size())
@@ -90,7 +91,8 @@ pub fn run(
     ensures skips { OnOk result (skip_fault request.now input.now skips.now ≡ None) }
     ensures fault { IfErr result
         (λ e. (e ≡ RunFault.OutOfMemory) ⊎ (skip_fault request.now input.now skips.now ≡ Some e)) }
-    ensures too_many { (result ≡ Err RunFault.TooManySkips) ↔ (request.now.skips < length skips.now) }
+    ensures too_many { (result ≡ Err RunFault.TooManySkips)
+        ↔ (request.now.skips < length skips.now) }
 {
     run_watched(alloc, request, input, skips, &Unwatched)
 }
@@ -112,7 +114,8 @@ pub fn run_watched(
     ensures skips { OnOk result (skip_fault request.now input.now skips.now ≡ None) }
     ensures fault { IfErr result
         (λ e. (e ≡ RunFault.OutOfMemory) ⊎ (skip_fault request.now input.now skips.now ≡ Some e)) }
-    ensures too_many { (result ≡ Err RunFault.TooManySkips) ↔ (request.now.skips < length skips.now) }
+    ensures too_many { (result ≡ Err RunFault.TooManySkips)
+        ↔ (request.now.skips < length skips.now) }
 {
     if (request.max_skips() as usize) < skips.len() {
         return Err(RunFault::TooManySkips);
@@ -168,30 +171,13 @@ fn outputs_of(
 ) -> Result<(Vec<Vec<u8>>, FlatGroups), AllocError>
     requires some { 0 < kept.now.cut.size }
     requires size { kept.now.cut.size ≡ request.now.split }
-    ensures count { IfOk result (λ r. length r.0.items ≡ request.now.parts) }
-    ensures texts { IfOk result (λ r. (p : ℕ) → p < request.now.parts → nth_file (contents r.0.items) p
-        ≡ sequential request.now kept.now.cut.files kept.now.skips p) }
-    ensures parts { IfOk result (λ r. length r.1.group_counts.items ≡ request.now.parts) }
-    ensures counted { IfOk result
-        (λ r. AreCounted r.1.group_counts.items r.1.entry_counts.items r.1.names) }
-    ensures groups { IfOk result
-        (λ r. chunks r.1.group_counts.items (chunks r.1.entry_counts.items r.1.names)
-        ≡ (certificate_of request.now kept.now.cut.files kept.now.skips).groups) }
+    ensures { IfOk result (λ r. AreOutputs request.now kept.now (contents r.0.items) r.1) }
 {
     // Files within the limits of an input emit fewer pairs than a u32 numbers.
     let _files = kept.plan().input().files();
-    let job = request.job();
-    let Emitted { keys, counts } = gather(alloc, job, kept, watch)?;
+    let emitted = gather(alloc, request.job(), kept, watch)?;
     watch.report(Phase::Reducing, 0, 1);
-    let made = outputs(
-        alloc,
-        job,
-        kept,
-        keys,
-        counts,
-        request.by(),
-        request.parts(),
-    )?;
+    let made = outputs(alloc, request, kept, emitted)?;
     watch.report(Phase::Reducing, 1, 1);
     Ok(made)
 }
@@ -210,8 +196,10 @@ fn execute(
     ensures count { IfOk result (λ r. length r.0.items ≡ request.now.parts) }
     ensures texts { IfOk result (λ r. (p : ℕ) → p < request.now.parts
         → nth_file (contents r.0.items) p ≡ sequential request.now plan.now.files skips.now p) }
-    ensures certificate { IfOk result (λ r. r.1 ≡ certificate_of request.now plan.now.files skips.now) }
-    ensures is_good { IfOk result (λ r. IsGood request.now plan.now.files (contents r.0.items) r.1) }
+    ensures certificate { IfOk result
+        (λ r. r.1 ≡ certificate_of request.now plan.now.files skips.now) }
+    ensures is_good { IfOk result
+        (λ r. IsGood request.now plan.now.files (contents r.0.items) r.1) }
     ensures only { IfErr result (λ e. e ≡ RunFault.OutOfMemory) }
 {
     // An input has few enough files, and a request few enough partitions, for a certificate.

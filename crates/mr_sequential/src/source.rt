@@ -1,41 +1,15 @@
 //! Collects the keys that a job emits for the records that are kept.
 ghost use Rattle.std.specs.Prelude.{◌≡◌, ◌+◌, ◌≤◌, ◌<◌, ◌^◌, ◌++◌, ◌∷◌, [], IfOk, OnOk, length};
 ghost use Rattle.std.specs.Prelude.{map};
-ghost use Rattle.std.specs.List.{flat_map};
 ghost use Rattle.mr_jobs.specs.Emissions.{emissions};
 ghost use Rattle.mr_jobs.specs.Hits.{IsLine};
-ghost use Rattle.mr_splits.specs.Cut.{records_of};
-ghost use Rattle.mr_splits.specs.Kept.{kept_records};
-ghost use Rattle.mr_sequential.specs.Names.{pair_count};
-ghost use Rattle.mr_sequential.specs.Pairs.{kept_pairs};
+ghost use Rattle.mr_sequential.specs.Names.{AreEmitted, triples_of};
 
 use mr_bytes::{Phase, Progress, Throttle};
 use mr_group::KeyColumn;
 use mr_jobs::{Job, Mapper};
 use mr_splits::{KeptPlan, RecordAt};
 use std::alloc::{AllocError, Global};
-
-fn gather_record(
-    alloc: Global,
-    mapper: &mut Mapper<'_, '_>,
-    line: RecordAt<'_>,
-    keys: &mut KeyColumn,
-) -> Result<(), AllocError>
-    requires small { length line.bytes.now ≤ 2 ^ 30 }
-    requires line { IsLine mapper.old.files line.file line.start line.bytes.now }
-    requires few { length keys.old
-        + length (emissions mapper.old.job line.file line.start line.bytes.now) < 2 ^ 32 }
-    ensures same { mapper.new ≡ mapper.old }
-    ensures keys { OnOk result (keys.new
-        ≡ keys.old ++ map (λ e. e.0)
-        (emissions mapper.old.job line.entry.file line.entry.start line.entry.bytes.now)) }
-{
-    let mut emitter = mapper.emit(line.file, line.start, line.bytes)?.emitter();
-    while let Some((key, _)) = emitter.next() {
-        keys.push(alloc, key)?;
-    }
-    Ok(())
-}
 
 /// The keys of pairs, and each kept record's number of pairs. Records and counts give the names,
 /// and names give the values.
@@ -45,7 +19,7 @@ pub(crate) struct Emitted {
     pub counts: Vec<u32>,
 }
 
-fn gather_one(
+fn gather_record(
     alloc: Global,
     mapper: &mut Mapper<'_, '_>,
     line: RecordAt<'_>,
@@ -56,15 +30,16 @@ fn gather_one(
     requires few { length emitted.old.keys
         + length (emissions mapper.old.job line.file line.start line.bytes.now) < 2 ^ 32 }
     ensures same { mapper.new ≡ mapper.old }
-    ensures keys { OnOk result (emitted.new.keys
-        ≡ emitted.old.keys ++ map (λ e. e.0)
+    ensures keys { OnOk result (emitted.new.keys ≡ emitted.old.keys ++ map (λ e. e.0)
         (emissions mapper.old.job line.entry.file line.entry.start line.entry.bytes.now)) }
-    ensures counts { OnOk result (emitted.new.counts.items
-        ≡ emitted.old.counts.items ++ length
+    ensures counts { OnOk result (emitted.new.counts.items ≡ emitted.old.counts.items ++ length
         (emissions mapper.old.job line.entry.file line.entry.start line.entry.bytes.now) ∷ []) }
 {
     let before = emitted.keys.len();
-    gather_record(alloc, mapper, line, &mut emitted.keys)?;
+    let mut emitter = mapper.emit(line.file, line.start, line.bytes)?.emitter();
+    while let Some((key, _)) = emitter.next() {
+        emitted.keys.push(alloc, key)?;
+    }
     let count = emitted.keys.len() - before;
     emitted.counts.push(count as u32)?;
     Ok(())
@@ -77,13 +52,10 @@ fn gather_all(
     watch: &dyn Progress,
     emitted: &mut Emitted,
 ) -> Result<(), AllocError>
-    requires few { length (flat_map (kept_pairs job.now kept.now.skips) (records_of kept.now.cut)) < 2 ^ 32 }
+    requires few { length (triples_of job.now kept.now) < 2 ^ 32 }
     requires no_keys { emitted.old.keys ≡ [] }
     requires no_counts { emitted.old.counts.items ≡ [] }
-    ensures keys { OnOk result (emitted.new.keys ≡ map
-        (λ e. e.0) (flat_map (kept_pairs job.now kept.now.skips) (records_of kept.now.cut))) }
-    ensures counts { OnOk result (emitted.new.counts.items
-        ≡ map (pair_count job.now) (kept_records kept.now.skips (records_of kept.now.cut))) }
+    ensures { OnOk result (AreEmitted job.now kept.now emitted.new.keys emitted.new.counts.items) }
 {
     let plan = kept.plan();
     let mut left = kept.records();
@@ -93,7 +65,7 @@ fn gather_all(
     while let Some((_, line)) = left.next() {
         pace.reach(done, watch);
         done = done.saturating_add(1);
-        gather_one(alloc, &mut mapper, line, emitted)?;
+        gather_record(alloc, &mut mapper, line, emitted)?;
     }
     Ok(())
 }
@@ -106,11 +78,8 @@ pub(crate) fn gather(
     kept: &KeptPlan<'_>,
     watch: &dyn Progress,
 ) -> Result<Emitted, AllocError>
-    requires few { length (flat_map (kept_pairs job.now kept.now.skips) (records_of kept.now.cut)) < 2 ^ 32 }
-    ensures keys { IfOk result (λ e. e.keys ≡ map
-        (λ e. e.0) (flat_map (kept_pairs job.now kept.now.skips) (records_of kept.now.cut))) }
-    ensures counts { IfOk result (λ e. e.counts.items
-        ≡ map (pair_count job.now) (kept_records kept.now.skips (records_of kept.now.cut))) }
+    requires { length (triples_of job.now kept.now) < 2 ^ 32 }
+    ensures { IfOk result (λ e. AreEmitted job.now kept.now e.keys e.counts.items) }
 {
     let mut emitted = Emitted {
         keys: KeyColumn::new(alloc),

@@ -10,15 +10,15 @@
 //!
 //! Invariant: each text is that of its partition's rows so far. Takes constant time for each name
 //! beside the texts, and no memory but theirs.
-ghost use Rattle.std.specs.Prelude.{◌≡◌, ℕ, ◌≤◌, ◌<◌, [], ◌++◌, IfOk, OnOk, All, false};
-ghost use Rattle.std.specs.Prelude.{length, map, slice_set};
+ghost use Rattle.std.specs.Prelude.{◌≡◌, ℕ, ◌<◌, [], ◌++◌, IfOk, OnOk, All, false};
+ghost use Rattle.std.specs.Prelude.{length, map};
 ghost use Rattle.mr_input.specs.Files.{contents, nth_file};
 ghost use Rattle.mr_jobs.specs.JobSpec.{counts as is_counter};
 ghost use Rattle.mr_reduce.specs.Files.{NeverFalls};
 ghost use Rattle.mr_reduce.specs.Text.{text_of, total_line};
 ghost use Rattle.mr_splits.specs.Cut.{records_of};
 ghost use Rattle.mr_sequential.specs.Names.{IsOfRecord, value_under};
-ghost use Rattle.mr_sequential.specs.Rows.{count_line, names_text, row_names, row_start, row_texts};
+ghost use Rattle.mr_sequential.specs.Rows.{HaveNames, add_to, count_line, names_text, row_texts};
 
 use mr_certform::{FlatGroups, Names};
 use mr_group::Row;
@@ -27,7 +27,7 @@ use mr_reduce::{TextWriter, append_total};
 use mr_splits::Plan;
 use std::alloc::{AllocError, Global};
 
-fn empty_texts(alloc: Global, parts: u32) -> Result<Vec<Vec<u8>>, AllocError>
+fn empty_texts(alloc: Global, parts: usize) -> Result<Vec<Vec<u8>>, AllocError>
     ensures count { IfOk result (λ r. length r.items ≡ parts) }
     ensures empty { IfOk result (λ r. (p : ℕ) → nth_file (contents r.items) p ≡ []) }
 {
@@ -42,8 +42,7 @@ fn add_total(texts: &mut Vec<Vec<u8>>, row: Row<'_>, total: u32) -> Result<(), A
     requires { row.part < length texts.old.items }
     ensures count { length texts.new.items ≡ length texts.old.items }
     ensures ok { OnOk result (contents texts.new.items
-        ≡ slice_set (contents texts.old.items) row.entry.part (nth_file
-        (contents texts.old.items) row.entry.part ++ total_line row.entry.key.now total)) }
+        ≡ add_to (contents texts.old.items) row.entry.part (total_line row.entry.key.now total)) }
 {
     let text = &mut texts[row.part as usize];
     append_total(row.key, total as u64, text)
@@ -86,9 +85,8 @@ fn add_names(
     requires part { row.part < length texts.old.items }
     ensures count { length texts.new.items ≡ length texts.old.items }
     ensures ok { OnOk result (contents texts.new.items
-        ≡ slice_set (contents texts.old.items) row.entry.part
-        (nth_file (contents texts.old.items) row.entry.part
-        ++ text_of job.now row.entry.key.now (map (value_under job.now (records_of plan.now)) names.entry))) }
+        ≡ add_to (contents texts.old.items) row.entry.part (text_of job.now row.entry.key.now
+        (map (value_under job.now (records_of plan.now)) names.entry))) }
 {
     let text = &mut texts[row.part as usize];
     add_text(job, plan, row.key, names, text)
@@ -98,8 +96,9 @@ fn count_texts(rows: &[Row<'_>], sizes: &[u32], texts: &mut Vec<Vec<u8>>) -> Res
     requires parts { All (λ r. r.part < length texts.old.items) rows.now }
     requires sizes { length sizes.now ≡ length rows.now }
     ensures count { length texts.new.items ≡ length texts.old.items }
-    ensures ok { OnOk result ((p : ℕ) → p < length texts.old.items → nth_file (contents texts.new.items) p
-        ≡ nth_file (contents texts.old.items) p ++ row_texts (count_line sizes.now) p 0 rows.now) }
+    ensures ok { OnOk result ((p : ℕ) → p < length texts.old.items
+        → nth_file (contents texts.new.items) p ≡ nth_file (contents texts.old.items) p
+        ++ row_texts (count_line sizes.now) p 0 rows.now) }
 {
     for (rank, row) in rows.iter().enumerate() {
         add_total(texts, *row, sizes[rank])?;
@@ -111,83 +110,47 @@ fn name_texts(
     job: &Job,
     plan: &Plan<'_>,
     rows: &[Row<'_>],
-    counts: &[u32],
-    names: Names<'_>,
+    groups: &FlatGroups,
     texts: &mut Vec<Vec<u8>>,
 ) -> Result<(), AllocError>
     requires counting { is_counter job.now ≡ false }
     requires parts { All (λ r. r.part < length texts.old.items) rows.now }
-    requires counts { length counts.now ≡ length rows.now }
-    requires within { row_start counts.now (length rows.now) ≤ length names }
-    requires named { (r : ℕ) → r < length rows.now
-        → All (IsOfRecord plan.now) (row_names counts.now names r) }
-    requires rising { (r : ℕ) → r < length rows.now → NeverFalls
-        (map (value_under job.now (records_of plan.now)) (row_names counts.now names r)) }
+    requires names { HaveNames job.now plan.now (length rows.now) groups.now }
     ensures count { length texts.new.items ≡ length texts.old.items }
-    ensures ok { OnOk result ((p : ℕ) → p < length texts.old.items → nth_file (contents texts.new.items) p
-        ≡ nth_file (contents texts.old.items) p
-        ++ row_texts (names_text job.now (records_of plan.now) counts.now names.entry) p 0 rows.now) }
+    ensures ok { OnOk result ((p : ℕ) → p < length texts.old.items
+        → nth_file (contents texts.new.items) p ≡ nth_file (contents texts.old.items) p
+        ++ row_texts (names_text job.now (records_of plan.now) groups.now) p 0 rows.now) }
 {
-    let mut left = names;
+    let mut left = groups.names.names();
     for (rank, row) in rows.iter().enumerate() {
-        let (here, behind) = left.split_at(counts[rank] as usize);
+        let (here, behind) = left.split_at(groups.entry_counts[rank] as usize);
         add_names(job, plan, texts, *row, here)?;
         left = behind;
     }
     Ok(())
 }
 
-/// A job that counts needs only the size of each row, another the values, which follow from names.
-fn fill_texts(
-    job: &Job,
-    plan: &Plan<'_>,
-    rows: &[Row<'_>],
-    groups: &FlatGroups,
-    texts: &mut Vec<Vec<u8>>,
-) -> Result<(), AllocError>
-    requires parts { All (λ r. r.part < length texts.old.items) rows.now }
-    requires counts { length groups.now.entry_counts.items ≡ length rows.now }
-    requires within { row_start groups.now.entry_counts.items (length rows.now)
-        ≤ length groups.now.names }
-    requires named { (r : ℕ) → r < length rows.now → All (IsOfRecord plan.now)
-        (row_names groups.now.entry_counts.items groups.now.names r) }
-    requires rising { (r : ℕ) → r < length rows.now → NeverFalls (map (value_under job.now
-        (records_of plan.now)) (row_names groups.now.entry_counts.items groups.now.names r)) }
-    ensures count { length texts.new.items ≡ length texts.old.items }
-    ensures ok { OnOk result ((p : ℕ) → p < length texts.old.items → nth_file (contents texts.new.items) p
-        ≡ nth_file (contents texts.old.items) p
-        ++ row_texts (names_text job.now (records_of plan.now) groups.now.entry_counts.items groups.now.names) p 0 rows.now) }
-{
-    let counts = groups.entry_counts.as_slice();
-    if job.counts() {
-        count_texts(rows, counts, texts)
-    } else {
-        name_texts(job, plan, rows, counts, groups.names.names(), texts)
-    }
-}
-
+/// The texts of all partitions. A job that counts needs only the size of each row, another the
+/// values, which follow from names.
 pub(crate) fn texts_of(
     alloc: Global,
     job: &Job,
     plan: &Plan<'_>,
     rows: &[Row<'_>],
     groups: &FlatGroups,
-    parts: u32,
 ) -> Result<Vec<Vec<u8>>, AllocError>
-    requires parts { All (λ r. r.part < parts) rows.now }
-    requires counts { length groups.now.entry_counts.items ≡ length rows.now }
-    requires within { row_start groups.now.entry_counts.items (length rows.now)
-        ≤ length groups.now.names }
-    requires named { (r : ℕ) → r < length rows.now → All (IsOfRecord plan.now)
-        (row_names groups.now.entry_counts.items groups.now.names r) }
-    requires rising { (r : ℕ) → r < length rows.now → NeverFalls (map (value_under job.now
-        (records_of plan.now)) (row_names groups.now.entry_counts.items groups.now.names r)) }
-    ensures count { IfOk result (λ v. length v.items ≡ parts) }
-    ensures texts { IfOk result (λ v. (p : ℕ) → p < parts → nth_file (contents v.items) p
-        ≡ row_texts (names_text job.now
-        (records_of plan.now) groups.now.entry_counts.items groups.now.names) p 0 rows.now) }
+    requires parts { All (λ r. r.part < length groups.now.group_counts.items) rows.now }
+    requires names { HaveNames job.now plan.now (length rows.now) groups.now }
+    ensures count { IfOk result (λ v. length v.items ≡ length groups.now.group_counts.items) }
+    ensures texts { IfOk result (λ v. (p : ℕ) → p < length groups.now.group_counts.items
+        → nth_file (contents v.items) p
+        ≡ row_texts (names_text job.now (records_of plan.now) groups.now) p 0 rows.now) }
 {
-    let mut texts = empty_texts(alloc, parts)?;
-    fill_texts(job, plan, rows, groups, &mut texts)?;
+    let mut texts = empty_texts(alloc, groups.group_counts.len())?;
+    if job.counts() {
+        count_texts(rows, groups.entry_counts.as_slice(), &mut texts)?;
+        return Ok(texts);
+    }
+    name_texts(job, plan, rows, groups, &mut texts)?;
     Ok(texts)
 }

@@ -1,89 +1,103 @@
-use Rattle.std.proofs.Common.{◌≡◌, ◌<◌, ℕ, List, All, length, sym, ap, ◌∙◌, arith, subst, map}
+use Rattle.std.proofs.Common.{◌≡◌, ◌<◌, ℕ, List, All, length, sym, ap, ◌∙◌, arith, subst, map, Vec, Global}
 use Rattle.std.proofs.lemmas.List.{length-map}
-use Rattle.std.proofs.lemmas.Result.{IfOk-weaker}
-use Rattle.std.specs.List.{range_with_len, zip}
-use Rattle.mr_bytes.specs.declared.Name.{Name}
-use Rattle.mr_bytes.specs.declared.Value.{Value}
-use Rattle.mr_bytes.specs.Lists.{Rises}
-use Rattle.mr_group.specs.Interner.{key_at}
-use Rattle.mr_partition.specs.Hosts.{partition_by}
-use Rattle.mr_reduce.specs.Text.{text_of}
+use Rattle.mr_bytes.specs.declared.By.{By}
 use Rattle.mr_group.specs.declared.rows.Row.{Row}
-use Rattle.mr_group.specs.Rows.{IsRanked, row_cmp, row_part}
-use Rattle.mr_group.proofs.RankLemmas.{rank_count}
-use Rattle.mr_splits.specs.Cut.{records_of}
-use Rattle.mr_splits.specs.Kept.{kept_records}
-use Rattle.mr_splits.specs.Named.{NamedRecord}
-use Rattle.mr_sequential.specs.Names.{names_beside, value_under}
-use Rattle.mr_sequential.specs.Pairs.{buckets, groups_in, texts_in}
 use Rattle.mr_group.specs.Column.{keyed}
-use Rattle.mr_sequential.specs.Rows.{bucket_text, row_texts}
-use Rattle.mr_sequential.proofs.RankLemmas.{texts-rows}
-use Rattle.mr_sequential.proofs.RankedGroups.{groups-rows, ranks-used}
+use Rattle.mr_group.specs.Interner.{key_at}
+use Rattle.mr_group.specs.Rows.{AreRows, IsRanked}
+use Rattle.mr_group.proofs.RankLemmas.{rank_count}
+use Rattle.mr_jobs.specs.JobSpec.{JobSpec, RequestSpec}
+use Rattle.mr_partition.specs.Hosts.{partition_by}
+use Rattle.std.specs.List.{range_with_len}
+use Rattle.mr_splits.specs.Cut.{Cut, records_of}
+use Rattle.mr_splits.specs.Kept.{Choice}
+use Rattle.mr_sequential.specs.Certified.{groups_of}
+use Rattle.mr_sequential.specs.Emitted.{emitted}
+use Rattle.mr_sequential.specs.Sequential.{texts_of}
+use Rattle.mr_sequential.specs.Names.{triples_of}
+use Rattle.mr_sequential.specs.Rows.{HaveNames, names_text, row_texts}
+use Rattle.mr_sequential.specs.Rules.{part, rules_of}
+use Rattle.mr_sequential.proofs.FillLemmas.{grouped-texts, have-names}
+use Rattle.mr_sequential.proofs.RankLemmas.{are-ranks}
+use Rattle.mr_sequential.proofs.GroupLemmas.{rows-within}
 use Rattle.mr_sequential.proofs.outputs.outputs.Goals as goal
 
--- as many pairs as keys are seen
-pair_count : (keys : List (List ℕ)) (is : List ℕ) (seen : List (List ℕ)) → keyed keys is ≡ seen → length seen ≡ length is
-pair_count keys is seen view = omega (arith, length-map is (key_at keys), ap length view)
-
 -- as many ranks as keys are seen
-even : (keys seen : List (List ℕ)) (rows : List Row) (is rs : List ℕ) → IsRanked keys rows is rs → keyed keys is ≡ seen → length rs ≡ length seen
-even keys seen rows is rs ranks view = omega (arith, pair_count keys is seen view, rank_count keys rows is rs ranks)
+rank-many : (keys seen : List (List ℕ)) (rows : List Row) (is rs : List ℕ) → IsRanked keys rows is rs → keyed keys is ≡ seen → length rs ≡ length seen
+rank-many keys seen rows is rs ranks view =
+    omega (arith, length-map is (key_at keys), ap length view, rank_count keys rows is rs ranks)
 
-pub outputs_by_rank-requires-clause-used : goal.outputs_by_rank-requires-clause-used
-outputs_by_rank-requires-clause-used c = λ r h.
-    let rows : List Row = c.in_ok-rows.field-0.rows.items in
-    ranks-used (λ k. partition_by c.args.by k c.args.parts) c.into_parts-keys.result.0 rows c.into_parts-keys.result.1.items c.in_ok-rows.field-0.numbers.items c.in_ok-rows.ensures.rows c.in_ok-rows.ensures.numbers
-    c.into_parts-keys.ensures.numbers.used r (omega (arith, h, ap length c.as_slice.ensures.value))
+-- the rows of this request
+rows-of_request : (request : RequestSpec) (keys : List (List ℕ)) (by : By) (parts : ℕ) (rows : List Row) → by ≡ request.by → parts ≡ request.parts
+    → AreRows keys (λ k. partition_by by k parts) rows → AreRows keys (part request) rows
+rows-of_request request keys by parts rows same many are =
+    subst (λ (b : By). AreRows keys (λ k. partition_by b k request.parts) rows) same
+    (subst (λ n. AreRows keys (λ k. partition_by by k n) rows) many are)
 
-pub outputs_by_rank-requires-clause-sorted : goal.outputs_by_rank-requires-clause-sorted
-outputs_by_rank-requires-clause-sorted c = subst (Rises row_cmp) (sym c.as_slice.ensures.value) c.in_ok-rows.ensures.rows.rise
+pub grouped-requires-clause-rows : goal.grouped-requires-clause-rows
+grouped-requires-clause-rows c =
+    let is : List ℕ = c.into_parts-keys.result.1.items in
+    omega (
+      arith,
+      c.in_ok-pairs.ensures.count,
+      c.into_parts-keys.ensures.numbers.few,
+      length-map is (key_at c.into_parts-keys.result.0),
+      ap length c.into_parts-keys.ensures.keyed,
+      c.requires.few,
+    )
 
-pub outputs_by_rank-requires-clause-inside : goal.outputs_by_rank-requires-clause-inside
-outputs_by_rank-requires-clause-inside c =
-    subst (λ (l : List Row). All (λ i. i < length l) c.in_ok-rows.field-0.numbers.items) (sym c.as_slice.ensures.value) c.in_ok-rows.ensures.numbers.inside
+pub grouped-requires-clause-few : goal.grouped-requires-clause-few
+grouped-requires-clause-few c =
+    omega (
+      arith,
+      rank-many c.into_parts-keys.result.0 c.args.emitted.keys c.in_ok-pairs.pairs.rows.items c.into_parts-keys.result.1.items c.in_ok-pairs.pairs.numbers.items
+          c.in_ok-pairs.ensures.numbers c.into_parts-keys.ensures.keyed,
+      c.requires.few,
+    )
 
-pub outputs_by_rank-requires-clause-all : goal.outputs_by_rank-requires-clause-all
-outputs_by_rank-requires-clause-all c =
-    c.requires.all ∙ sym (even c.into_parts-keys.result.0 c.args.gathered c.in_ok-rows.field-0.rows.items c.into_parts-keys.result.1.items c.in_ok-rows.field-0.numbers.items c.in_ok-rows.ensures.numbers c.into_parts-keys.ensures.keyed)
+pub grouped-requires-clause-ranks : goal.grouped-requires-clause-ranks
+grouped-requires-clause-ranks c =
+    let request : RequestSpec = c.args.request.now in
+    let rows : List Row = c.in_ok-pairs.pairs.rows.items in
+    are-ranks (part request) c.into_parts-keys.result.0 (triples_of request.job c.args.kept.now) rows c.into_parts-keys.result.1.items c.in_ok-pairs.pairs.numbers.items
+    (rows-of_request request c.into_parts-keys.result.0 c.by.result c.parts.result rows c.by.ensures.same c.parts.ensures.same c.in_ok-pairs.ensures.rows)
+    c.in_ok-pairs.ensures.numbers c.into_parts-keys.ensures.numbers.used
+    (c.into_parts-keys.ensures.keyed ∙ c.requires.emitted.keys_are)
 
-pub outputs_by_rank-requires-clause-few : goal.outputs_by_rank-requires-clause-few
-outputs_by_rank-requires-clause-few c =
-    omega (arith, c.requires.few, even c.into_parts-keys.result.0 c.args.gathered c.in_ok-rows.field-0.rows.items c.into_parts-keys.result.1.items c.in_ok-rows.field-0.numbers.items c.in_ok-rows.ensures.numbers c.into_parts-keys.ensures.keyed)
+pub texts_of-requires-clause-parts : goal.texts_of-requires-clause-parts
+texts_of-requires-clause-parts c =
+    let groups = c.in_ok-rows.ensures in
+    subst (λ (l : List Row). All (λ r. r.part < length c.in_ok-rows.groups.group_counts.items) l) (sym c.as_slice.ensures.value)
+    (subst (λ n. All (λ r. r.part < n) c.in_ok-rows.rows.items) (sym groups.parts)
+    (rows-within c.args.request.now c.in_ok-rows.rows.items (omega (arith, c.parts.ensures.same, c.parts.ensures.within.0)) groups.part_is))
 
-pub returns-clause-texts : goal.returns-clause-texts
-returns-clause-texts c =
-    let job = c.args.job.now in
-    let parts : ℕ = c.args.parts in
-    let rows : List Row = c.in_ok-rows.field-0.rows.items in
-    let rs : List ℕ = c.in_ok-rows.field-0.numbers.items in
-    let all : List NamedRecord = records_of c.args.kept.now.cut in
-    let beside : List Name = names_beside (kept_records c.args.kept.now.skips all) c.args.counts.items in
-    let vs : List Value = map (value_under job all) beside in
-    let same : length c.into_parts-keys.result.1.items ≡ length vs =
-    omega (arith, length-map beside (value_under job all), c.requires.all, pair_count c.into_parts-keys.result.0 c.into_parts-keys.result.1.items c.args.gathered c.into_parts-keys.ensures.keyed) in
-    IfOk-weaker c.outputs_by_rank.result _ _
-    (λ r told p h. told p h
-    ∙ ap (λ (l : List Row). row_texts (bucket_text job (zip rs vs)) p 0 l) c.as_slice.ensures.value
-    ∙ texts-rows job (λ k. partition_by c.args.by k parts) p c.into_parts-keys.result.0 rows c.into_parts-keys.result.1.items rs vs c.in_ok-rows.ensures.rows c.in_ok-rows.ensures.numbers c.into_parts-keys.ensures.numbers.used same
-    ∙ ap (λ (l : List (List ℕ)). texts_in (λ k. partition_by c.args.by k parts) (text_of job) (zip l vs) p) c.into_parts-keys.ensures.keyed)
-    c.outputs_by_rank.ensures.texts
+pub texts_of-requires-clause-names : goal.texts_of-requires-clause-names
+texts_of-requires-clause-names c =
+    let request : RequestSpec = c.args.request.now in
+    let g = c.in_ok-rows.groups in
+    subst (λ (l : List Row). HaveNames c.job.result.now c.plan.result.now (length l) g) (sym c.as_slice.ensures.value)
+    (subst (λ (k : Cut). HaveNames c.job.result.now k (length c.in_ok-rows.rows.items) g) (sym c.plan.ensures)
+    (subst (λ (j : JobSpec). HaveNames j c.args.kept.now.cut (length c.in_ok-rows.rows.items) g) (sym c.job.ensures.same)
+    (have-names request c.args.kept.now c.args.emitted.counts.items c.in_ok-rows.rows.items g c.requires.some c.requires.emitted.names_are c.in_ok-rows.ensures)))
 
-pub returns-clause-parts : goal.returns-clause-parts
-returns-clause-parts c = IfOk-weaker c.outputs_by_rank.result _ _ (λ r told. told.count) c.outputs_by_rank.ensures.groups
-
-pub returns-clause-counted : goal.returns-clause-counted
-returns-clause-counted c = IfOk-weaker c.outputs_by_rank.result _ _ (λ r told. told.counted) c.outputs_by_rank.ensures.groups
-
-pub returns-clause-groups : goal.returns-clause-groups
-returns-clause-groups c =
-    let rows : List Row = c.in_ok-rows.field-0.rows.items in
-    let rs : List ℕ = c.in_ok-rows.field-0.numbers.items in
-    let beside : List Name = names_beside (kept_records c.args.kept.now.skips (records_of c.args.kept.now.cut)) c.args.counts.items in
-    let m : ℕ = c.args.parts in
-    IfOk-weaker c.outputs_by_rank.result _ _
-    (λ r told. told.groups
-    ∙ ap (λ (l : List Row). buckets m (zip (map row_part l) (buckets (length l) (zip rs beside)))) c.as_slice.ensures.value
-    ∙ groups-rows (λ k. partition_by c.args.by k m) m c.into_parts-keys.result.0 rows c.into_parts-keys.result.1.items rs beside c.in_ok-rows.ensures.rows c.in_ok-rows.ensures.numbers c.into_parts-keys.ensures.numbers.used
-    ∙ ap (λ (l : List (List ℕ)). map (groups_in (λ k. partition_by c.args.by k m) l beside) (range_with_len 0 m)) c.into_parts-keys.ensures.keyed)
-    c.outputs_by_rank.ensures.groups
+pub returns : goal.returns
+returns c =
+    let request : RequestSpec = c.args.request.now in
+    let kept : Choice = c.args.kept.now in
+    let job : JobSpec = request.job in
+    let rows : List Row = c.in_ok-rows.rows.items in
+    let texts : List (Vec ℕ Global) = c.in_ok-texts.texts.items in
+    let g = c.in_ok-rows.groups in
+    let grouped = c.in_ok-rows.ensures in
+    record {
+      count = length-map texts (λ (v : Vec ℕ Global). v.items) ∙ c.in_ok-texts.ensures.count ∙ grouped.parts;
+      texts = λ p h. c.in_ok-texts.ensures.texts p (omega (arith, h, grouped.parts))
+          ∙ ap (λ (l : List Row). row_texts (names_text c.job.result.now (records_of c.plan.result.now) g) p 0 l) c.as_slice.ensures.value
+          ∙ ap (λ (k : Cut). row_texts (names_text c.job.result.now (records_of k) g) p 0 rows) c.plan.ensures
+          ∙ ap (λ (j : JobSpec). row_texts (names_text j (records_of kept.cut) g) p 0 rows) c.job.ensures.same
+          ∙ grouped-texts request kept rows g p c.requires.some grouped
+          ∙ ap (λ m. texts_of (rules_of request) (emitted job m kept.cut.files kept.skips) p) c.requires.size;
+      parts = grouped.parts;
+      counted = grouped.counted;
+      groups = grouped.groups_are ∙ ap (λ m. map (groups_of (part request) (emitted job m kept.cut.files kept.skips)) (range_with_len 0 request.parts)) c.requires.size;
+    }

@@ -10,6 +10,9 @@ use Rattle.mr_sequential.proofs.CertifiedLaws.{sequential_is_good}
 use Rattle.mr_sequential.proofs.sequence.execute.Goals as goal
 use Rattle.std.proofs.lemmas.List.{length-map}
 
+pub returns-clause-count : goal.returns-clause-count
+returns-clause-count g c = sym (length-map c.in_ok-texts.texts.items (λ (v : Vec ℕ Global). v.items)) ∙ c.in_ok-texts.ensures.count
+
 pub returns-clause-texts : goal.returns-clause-texts
 returns-clause-texts g c = λ p h.
     c.in_ok-texts.ensures.texts p h ∙ ap (λ (k : Choice). sequential c.args.request.now k.cut.files k.skips p) c.in_ok-kept.ensures.ok
@@ -39,12 +42,11 @@ returns-clause-is_good g c =
     let request = c.args.request.now in
     let files : List (List ℕ) = c.args.plan.now.files in
     let skips : List RecordName = c.args.skips.now in
-    let texts : List (Vec ℕ Global) = c.in_ok-texts.texts.items in
-    let outs : List (List ℕ) = contents texts in
+    let outs : List (List ℕ) = contents c.in_ok-texts.texts.items in
     subst (IsGood request files outs) (sym (returns-clause-certificate g c))
     (sequential_is_good request files outs skips
     (omega (arith, c.requires.some, c.requires.size))
     (omega (arith, c.parts-parts.ensures.same, c.parts-parts.ensures.within.0))
     c.requires.fault
-    (omega (arith, length-map texts (λ (v : Vec ℕ Global). v.items), c.in_ok-texts.ensures.count))
+    c.in_ok-texts.ensures.count
     (returns-clause-texts g c))

@@ -8,12 +8,13 @@ use Rattle.mr_jobs.specs.Hits.{Source, IsLine}
 use Rattle.mr_splits.specs.Named.{NamedRecord, is_left_out}
 use Rattle.mr_splits.specs.Cut.{Cut, records_of}
 use Rattle.mr_splits.specs.Kept.{kept_records}
-use Rattle.mr_sequential.specs.Names.{pair_count}
-use Rattle.mr_sequential.specs.Pairs.{kept_pairs, record_keys}
+use Rattle.mr_bytes.specs.Pairs.{Triple}
+use Rattle.mr_sequential.specs.Names.{names_by_counts, pair_count, triples_of}
+use Rattle.mr_sequential.specs.Pairs.{record_keys}
 use Rattle.mr_sequential.proofs.LineLemmas.{Stands, records-stand}
-use Rattle.mr_sequential.proofs.SourceLemmas.{kept-keys, next_counted, next_gathered, last_gathered}
+use Rattle.mr_sequential.proofs.SourceLemmas.{kept-keys, kept-names, next_counted, next_gathered, last_gathered}
 use Rattle.mr_sequential.proofs.source.gather_all.Goals as goal
-use Rattle.std.proofs.lemmas.List.{length-map, length-append}
+use Rattle.std.proofs.lemmas.List.{append-nil, length-map, length-append}
 
 pub loop-line-init : goal.loop-line-init
 loop-line-init g c =
@@ -33,15 +34,15 @@ loop-line-init g c =
 abbrev next_line : (files : List (List ℕ)) (left later : List NamedRecord) (r : NamedRecord) → left ≡ r ∷ later → All (Stands files) left → Stands files r
 next_line files left later r is lines = All-head (Stands files) r later (subst (All (Stands files)) is lines)
 
-pub gather_one-requires-clause-line : goal.gather_one-requires-clause-line
-gather_one-requires-clause-line g c =
+pub gather_record-requires-clause-line : goal.gather_record-requires-clause-line
+gather_record-requires-clause-line g c =
     let line = c.in-Some.line in
     let r : NamedRecord = record { name = c.in-Some.field-0-0; file = line.file; start = line.start; bytes = line.bytes.now } in
     let stands = next_line c.args.kept.now.cut.files c.loop-line.left c.next.new.self r c.in-Some.ensures.next c.loop-line.invariant.lines in
     subst (λ (m : Source). IsLine m.files line.file line.start line.bytes.now) (sym c.loop-line.invariant.mapper) stands
 
-pub gather_one-requires-clause-few : goal.gather_one-requires-clause-few
-gather_one-requires-clause-few g c =
+pub gather_record-requires-clause-few : goal.gather_record-requires-clause-few
+gather_record-requires-clause-few g c =
     let job : JobSpec = c.args.job.now in
     let skips : List RecordName = c.args.kept.now.skips in
     let rs : List NamedRecord = records_of c.args.kept.now.cut in
@@ -57,7 +58,7 @@ gather_one-requires-clause-few g c =
       length-append (f r) (flat_map f c.next.new.self),
       length-map (emissions job line.file line.start line.bytes.now) (λ (e : Emission). e.0),
       ap length (kept-keys job skips rs),
-      length-map (flat_map (kept_pairs job skips) rs) (λ (e : Emission). e.0),
+      length-map (triples_of job c.args.kept.now) (λ (t : Triple). t.key),
       c.requires.few,
     )
 
@@ -69,25 +70,31 @@ loop-line-preserved g c =
     let rs : List NamedRecord = kept_records c.args.kept.now.skips (records_of c.args.kept.now.cut) in
     let files : List (List ℕ) = c.args.kept.now.cut.files in
     let job : c.loop-line.mapper.job ≡ c.args.job.now = ap (λ (m : Source). m.job) c.loop-line.invariant.mapper in
-    let keys = c.in_ok-gather_one.ensures.keys
+    let keys = c.in_ok-gather_record.ensures.keys
     ∙ ap (λ j. c.loop-line.emitted.keys ++ map (λ (e : Emission). e.0) (emissions j line.file line.start line.bytes.now)) job in
-    let counts = c.in_ok-gather_one.ensures.counts
+    let counts = c.in_ok-gather_record.ensures.counts
     ∙ ap (λ j. c.loop-line.emitted.counts.items ++ length (emissions j line.file line.start line.bytes.now) ∷ []) job in
     record {
       lines = All-tail (Stands files) r c.next.new.self (subst (All (Stands files)) c.in-Some.ensures.next c.loop-line.invariant.lines);
-      mapper = c.gather_one.ensures.same ∙ c.loop-line.invariant.mapper;
-      keys = next_gathered f c.loop-line.emitted.keys c.gather_one.new.emitted.keys (f r) (flat_map f rs) c.loop-line.left c.next.new.self r
+      mapper = c.gather_record.ensures.same ∙ c.loop-line.invariant.mapper;
+      keys = next_gathered f c.loop-line.emitted.keys c.gather_record.new.emitted.keys (f r) (flat_map f rs) c.loop-line.left c.next.new.self r
           c.in-Some.ensures.next refl keys c.loop-line.invariant.keys;
-      counts = next_counted (pair_count c.args.job.now) c.loop-line.emitted.counts.items c.gather_one.new.emitted.counts.items (map (pair_count c.args.job.now) rs)
+      counts = next_counted (pair_count c.args.job.now) c.loop-line.emitted.counts.items c.gather_record.new.emitted.counts.items (map (pair_count c.args.job.now) rs)
           c.loop-line.left c.next.new.self r c.in-Some.ensures.next counts c.loop-line.invariant.counts;
     }
 
--- the keys of what was emitted when no record is left
-all_keys : (job : JobSpec) (skips : List RecordName) (rs left : List NamedRecord) (keys : List (List ℕ)) → left ≡ []
-    → keys ++ flat_map (record_keys job) left ≡ flat_map (record_keys job) (kept_records skips rs) → keys ≡ map (λ (e : Emission). e.0) (flat_map (kept_pairs job skips) rs)
-all_keys job skips rs left keys none so =
-    last_gathered (record_keys job) keys (flat_map (record_keys job) (kept_records skips rs)) left none so ∙ kept-keys job skips rs
-
-pub returns-clause-keys : goal.returns-clause-keys
-returns-clause-keys g c =
-    all_keys c.args.job.now c.args.kept.now.skips (records_of c.args.kept.now.cut) c.loop-line.left c.loop-line.emitted.keys c.in_default.ensures.next c.loop-line.invariant.keys
+pub returns : goal.returns
+returns g c =
+    let job : JobSpec = c.args.job.now in
+    let skips : List RecordName = c.args.kept.now.skips in
+    let rs : List NamedRecord = records_of c.args.kept.now.cut in
+    let left : List NamedRecord = c.loop-line.left in
+    let counts : List ℕ = c.loop-line.emitted.counts.items in
+    let none : left ≡ [] = c.in_default.ensures.next in
+    let all : counts ≡ map (pair_count job) (kept_records skips rs) =
+    sym (ap (λ (l : List NamedRecord). counts ++ map (pair_count job) l) none ∙ append-nil counts) ∙ c.loop-line.invariant.counts in
+    record {
+      keys_are = last_gathered (record_keys job) c.loop-line.emitted.keys (flat_map (record_keys job) (kept_records skips rs)) left none c.loop-line.invariant.keys
+          ∙ kept-keys job skips rs;
+      names_are = ap (names_by_counts c.args.kept.now) all ∙ kept-names job skips rs;
+    }

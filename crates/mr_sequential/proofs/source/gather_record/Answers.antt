@@ -6,13 +6,13 @@ use Rattle.std.proofs.lemmas.List.{length-map, length-append}
 pub push-requires : goal.push-requires
 push-requires c =
     let r = c.args.line in
-    let old : List (List ℕ) = c.args.keys.now in
+    let old : List (List ℕ) = c.args.emitted.now.keys in
     let all : List Emission = emissions c.args.mapper.now.job r.file r.start r.bytes.now in
     let left : List Emission = c.loop-key.emitter in
     omega (
       arith,
-      ap length c.loop-key.invariant,
-      length-append c.loop-key.keys (map (λ (e : Emission). e.0) left),
+      ap length c.loop-key.invariant.keys,
+      length-append c.loop-key.emitted.keys (map (λ (e : Emission). e.0) left),
       length-append old (map (λ (e : Emission). e.0) all),
       length-map left (λ (e : Emission). e.0),
       length-map all (λ (e : Emission). e.0),

@@ -6,8 +6,9 @@ use Rattle.mr_sequential.proofs.texts.name_texts.Given as goal
 
 abbrev pub invariant-loop-rank : goal.invariant-loop-rank
 invariant-loop-rank l = record {
-  left : l.left ≡ drop (row_start l.counts l.rank) l.fn.names;
+  left : l.left ≡ drop (row_start l.groups.entry_counts.items l.rank) l.groups.names;
   count : length l.texts.items ≡ length l.fn.texts.items;
-  texts : (p : ℕ) → p < length l.fn.texts.items → nth_file (contents l.texts.items) p ++ row_texts (names_text l.job (records_of l.plan) l.counts l.fn.names) p l.rank (drop l.rank l.rows)
-      ≡ nth_file (contents l.fn.texts.items) p ++ row_texts (names_text l.job (records_of l.plan) l.counts l.fn.names) p 0 l.rows;
+  texts : (p : ℕ) → p < length l.fn.texts.items
+      → nth_file (contents l.texts.items) p ++ row_texts (names_text l.job (records_of l.plan) l.groups) p l.rank (drop l.rank l.rows)
+      ≡ nth_file (contents l.fn.texts.items) p ++ row_texts (names_text l.job (records_of l.plan) l.groups) p 0 l.rows;
 }
