@@ -58,9 +58,6 @@ pub record AreSet (names : List ℕ) (grid : Grid) (words : List ℕ) (i : ℕ) 
   pub differ : Distinct (take i names)
   pub set : (n : ℕ) → Has (take i names) n → IsSet words (bit_of grid n)
 
-pub set-none : (names : List ℕ) (grid : Grid) (words : List ℕ) → AreSet names grid words 0
-set-none names grid words = record { differ = tt; set = λ n h. absurd h }
-
 pub set-more : (names : List ℕ) (grid : Grid) (words new : List ℕ) (i : ℕ) → i < length names → AreSet names grid words i
     → IsSet new (bit_of grid (get_or names i 0)) → (IsSet words (bit_of grid (get_or names i 0)) → ⊥) → ((b : ℕ) → IsSet words b → IsSet new b)
     → AreSet names grid new (i + 1)

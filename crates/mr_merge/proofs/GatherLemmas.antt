@@ -1,5 +1,5 @@
 -- Regions whose names follow one another, put together by key.
-use Rattle.std.proofs.Common.{◌≡◌, List, [], ◌∷◌, ◌++◌, refl, ap, sym, ◌∙◌, subst, inl, inr, Option, Some, None}
+use Rattle.std.proofs.Common.{◌≡◌, ◌<◌, ℕ, zero, suc, length, get_or, map, arith, List, [], ◌∷◌, ◌++◌, refl, ap, sym, ◌∙◌, subst, inl, inr, Option, Some, None}
 use Rattle.std.proofs.lemmas.List.{map-append}
 use Rattle.std.proofs.lemmas.Cmp.{tied_itself, nat_list_cmp_total}
 use Rattle.std.specs.List.{AllByRecursion}
@@ -22,6 +22,11 @@ pub All-weaker : {X : Type 0} (P Q : X → Type 0) (xs : List X) → ((x : X) �
 All-weaker P Q [] f all = tt
 All-weaker P Q (x ∷ xs) f all = (f x all.0, All-weaker P Q xs f all.1)
 
+pub All-at : {X Y : Type 0} (P : Y → Type 0) (f : X → Y) (xs : List X) (i : ℕ) (x : X) → i < length xs → x ≡ get_or xs i x → AllByRecursion P (map f xs) → P (f x)
+All-at P f [] i x h e all = absurd (omega arith)
+All-at P f (y ∷ xs) zero x h e all = subst (λ w. P (f w)) (sym e) all.0
+All-at P f (y ∷ xs) (suc i) x h e all = All-at P f xs i x (omega (arith, h)) e all.1
+
 -- pairs that rise, rise under their keys
 pub rising-under : (ts : List Triple) → Rises pair_order ts → RisesUnderKeys ts
 rising-under [] r = tt
@@ -30,15 +35,6 @@ rising-under (t ∷ ts) r = (
       let tied : key_order t.key u.key ≡ Equal = ap (key_order t.key) e ∙ tied_itself nat_list_cmp_total t.key in
       sym (ap (λ o. ordering_then o (name_order t.name u.name)) tied) ∙ Has-all (λ w. pair_order t w ≡ Less) ts u r.0 h),
   rising-under ts r.1,
-)
-
--- and so do pairs whose names rise
-pub by-name-under : (ts : List Triple) → Rises name_order (names_of ts) → RisesUnderKeys ts
-by-name-under [] r = tt
-by-name-under (t ∷ ts) r = (
-  all_from_Has (λ (u : Triple). u.key ≡ t.key → name_order t.name u.name ≡ Less) ts (λ u h e.
-      Has-all (λ n. name_order t.name n ≡ Less) (names_of ts) u.name r.0 (Has-map (λ (w : Triple). w.name) ts u h)),
-  by-name-under ts r.1,
 )
 
 under-append : (xs ys : List Triple) → RisesUnderKeys xs → RisesUnderKeys ys → ((t u : Triple) → Has xs t → Has ys u → name_order t.name u.name ≡ Less) → RisesUnderKeys (xs ++ ys)

@@ -19,8 +19,7 @@ use Rattle.mr_group.proofs.ListLemmas.{Has-permutation, same_image}
 use Rattle.std.proofs.lemmas.List.Sorted.{IsPermutation-sym}
 use Rattle.mr_merge.specs.Laws.{GroupsHave, GroupsRise, MergedHas, MergedIsOne}
 use Rattle.mr_merge.specs.Merged.{Group, group_of, merged}
-use Rattle.mr_merge.proofs.GroupLemmas.{keys-no-ties}
-use Rattle.mr_merge.proofs.SortedLaws.{sorted-same}
+use Rattle.mr_merge.proofs.GroupLemmas.{keys-no-ties, sorted-same}
 
 -- where names differ no two pairs stand at one place
 pub distinct-no-ties : (ts : List Triple) → Distinct (names_of ts) → HasNoTies pair_order ts
@@ -84,11 +83,6 @@ merged-same ps qs one same =
     sorted-same key_order nat_list_cmp_total (map (λ (t : Triple). t.key) ps) (map (λ (t : Triple). t.key) qs) (keys-no-ties (map (λ (t : Triple). t.key) ps))
     (λ k. (has-key ps qs (λ t. (same t).0) k, has-key qs ps (λ t. (same t).1) k)) in
     λ i. map (group_of (pairs i)) (keys i)
-
-pub merged-sorted : (pairs : List Triple) → Distinct (names_of pairs) → merged (sorted pair_order pairs) ≡ merged pairs
-merged-sorted pairs d =
-    let one : HasNoTies pair_order pairs = distinct-no-ties pairs d in
-    sym (merged-same pairs (sorted pair_order pairs) one (λ t. (sorted-Has pair_order pairs one t, sorted-Has_from pair_order pairs t)))
 
 -- pairs whose names differ give the same groups in whatever order
 pub merged-permuted : (ps qs : List Triple) → Distinct (names_of ps) → IsPermutation ps qs → merged ps ≡ merged qs

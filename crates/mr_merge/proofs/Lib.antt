@@ -1,5 +1,3 @@
-pub mod SortedLaws
-pub mod SoundLemmas
 pub mod GroupLemmas
 pub mod LawLemmas
 pub mod GatherLemmas

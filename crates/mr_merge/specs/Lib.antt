@@ -1,7 +1,6 @@
 pub mod Merged
 pub mod Laws
 pub mod Worked
-pub mod Groups
 pub mod Bytes
 pub mod Reduction
 pub mod Taking

@@ -1,17 +1,12 @@
 -- Regions of one partition merged: each key once, with all its pairs (OSDI 2004, section 4.2).
 use denote.Ref.{Bor}
-use Rattle.std.specs.Prelude.{ℕ, List, map, filter}
+use Rattle.std.specs.Prelude.{List, map}
 use Rattle.std.specs.List.{AllByRecursion, flat_map}
-use Rattle.std.specs.Str.{bytes_eq}
 use Rattle.mr_bytes.specs.Lists.{Rises, Distinct, sorted}
 use Rattle.mr_bytes.specs.Order.{key_order}
 use Rattle.mr_bytes.specs.Pairs.{Triple, pair_order}
 use Rattle.mr_spill.specs.Column.{names_of}
-
--- a key with its pairs
-pub record Group : Type 0 where
-  pub key : List ℕ
-  pub pairs : List Triple
+pub use Rattle.mr_spill.specs.Groups.{Group, group_of}
 
 -- the regions behind references
 abbrev pub values_of : List (Bor (List Triple)) → List (List Triple)
@@ -29,10 +24,6 @@ NamesDiffer ts = Distinct (names_of ts)
 pub record AreSound (regions : List (List Triple)) : Type 0 where
   pub in_order : AllByRecursion (Rises pair_order) regions
   pub names_differ : NamesDiffer (joined regions)
-
--- the pairs of a key
-abbrev pub group_of : List Triple → List ℕ → Group
-group_of ts key = record { key = key; pairs = filter (λ t. bytes_eq t.key key) ts }
 
 -- the groups of pairs, by rising key, and in each group by rising name
 abbrev pub merged : List Triple → List Group

@@ -7,8 +7,8 @@
 //!     bits       1 1 0 0   1 1 1 1   1 0 0 0     for 3:0 3:1 4:0 4:1 4:2 4:3 5:0
 //!
 //! Names differ where each finds its bit unset. From 2,048 bits a name on, or without memory for
-//! them, it sorts the names instead. Cost: two reads a name, and one of its bit; 8 bytes a name, and
-//! at most 256 for bits.
+//! them, it sorts the names instead. Cost: two reads a name, and one of its bit; 8 bytes a name,
+//! and at most 256 for bits.
 ghost use Rattle.std.specs.Prelude.{◌≡◌, ℕ, ◌++◌, ◌∷◌, [], IsTrue, OnOk};
 ghost use Rattle.std.specs.Ordering.{nat_cmp};
 ghost use Rattle.mr_bytes.specs.Lists.{Distinct, Rises};
@@ -49,7 +49,8 @@ impl RegionNames {
 
     #[inline(always)]
     pub fn push(&mut self, name: Name) -> Result<(), AllocError>
-        ensures { OnOk result (self.new.numbers.items ≡ self.old.numbers.items ++ packed name ∷ []) }
+        ensures { OnOk result
+            (self.new.numbers.items ≡ self.old.numbers.items ++ packed name ∷ []) }
     {
         let number = u64::from(name.rec) * 4_294_967_296 + u64::from(name.place);
         self.numbers.push(number).map_err(AllocError::from)

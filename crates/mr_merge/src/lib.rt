@@ -5,8 +5,8 @@
 //! it, and its name with the last one of the regions before. A row of pairs of one key takes one
 //! look-up. At the end it sorts the distinct keys and moves each name once. Where names of regions
 //! overlap or repeat, it first sorts all pairs by name, which takes a look-up more for each. Memory
-//! besides the regions: 28 bytes a pair, of which 12 stay, or 48 and the keys twice where it sorts by
-//! name; each distinct key; up to 264 for each name of the largest region, which is one run's
+//! besides the regions: 28 bytes a pair, of which 12 stay, or 48 and the keys twice where it sorts
+//! by name; each distinct key; up to 264 for each name of the largest region, which is one run's
 //! (`distinct.rt`).
 #![tactic(auto)]
 
@@ -15,5 +15,6 @@ mod merged;
 mod merging;
 mod reduction;
 
-pub use merged::{Groups, MergeFault, merge, merge_law, worked_groups};
+pub use merged::{MergeFault, merge, merge_law, worked_groups};
+pub use mr_spill::Groups;
 pub use reduction::Reduction;

@@ -1,11 +1,5 @@
 //! Merges all regions of a partition into groups, one for each key.
-ghost use Rattle.std.specs.Prelude.{◌≡◌, ◌<◌, IfOk, length, IfErr};
-ghost use Rattle.std.specs.List.{flat_map};
-ghost use Rattle.mr_spill.specs.Column.{names_of, nth_pair};
-ghost use Rattle.mr_spill.specs.Regions.{RisesUnderKeys};
-ghost use Rattle.mr_bytes.specs.Lists.{sorted};
-ghost use Rattle.mr_bytes.specs.Pairs.{pair_order};
-ghost use Rattle.mr_merge.specs.Groups.{nth_group};
+ghost use Rattle.std.specs.Prelude.{◌≡◌, IfOk, IfErr};
 ghost use Rattle.mr_merge.specs.Merged.{merged, AreSound, NamesDiffer, joined, values_of};
 ghost use Rattle.mr_merge.specs.Laws.{GroupsHave, GroupsRise, MergedHas, MergedIsOne};
 ghost use Rattle.mr_merge.specs.Worked.{WorkedFalling, WorkedGroups, WorkedTwice, WorkedTwoKeys};
@@ -13,79 +7,9 @@ ghost use Rattle.mr_merge.specs.declared.merged.MergeFault.{MergeFault};
 ghost use Rattle.mr_merge.specs.declared.merged.MergeFault.TheVariants.{RegionDamaged};
 
 use crate::merging::{all_rise, put_all};
-use mr_bytes::{Name, Value};
-use mr_spill::{KeyedPairs, PairColumns, keyed_pairs};
+use mr_spill::{Groups, PairColumns, group_pairs};
 use std::alloc::{AllocError, Global};
-use std::marker::Model;
 use thiserror::Error;
-
-/// The groups of merged regions, by rising key.
-#[derive(Drop)]
-pub struct Groups {
-    keyed: KeyedPairs,
-}
-
-impl Model for Groups {
-    ghost use Rattle.std.specs.Prelude.{List, map};
-    ghost use Rattle.mr_merge.specs.Groups.{group_with};
-    ghost use Rattle.mr_merge.specs.Merged.{Group};
-
-    ghost Value = { List Group };
-
-    ghost view = { λ g. map group_with g.keyed };
-}
-
-impl Groups {
-    /// The number of groups.
-    pub fn len(&self) -> usize
-        ensures { result ≡ length self.now }
-    {
-        self.keyed.len()
-    }
-
-    /// The key of group `g`, from 0.
-    pub fn key(&self, g: usize) -> &[u8]
-        requires { g < length self.now }
-        ensures { result.now ≡ (nth_group self.now g).key }
-    {
-        self.keyed.key(g)
-    }
-
-    /// The number of pairs in group `g`: at least one.
-    pub fn count(&self, g: usize) -> usize
-        requires { g < length self.now }
-        ensures count { result ≡ length (nth_group self.now g).pairs }
-        ensures some { 0 < result }
-    {
-        self.keyed.count(g)
-    }
-
-    /// The names of all groups, one group after another. It drops the rest.
-    pub fn into_names(self) -> Vec<Name>
-        ensures { result.items ≡ flat_map (λ g. names_of g.pairs) self }
-    {
-        let Groups { keyed } = self;
-        keyed.into_names()
-    }
-
-    /// Value `i` of group `g`, both from 0.
-    pub fn value(&self, g: usize, i: usize) -> Value
-        requires group { g < length self.now }
-        requires pair { i < length (nth_group self.now g).pairs }
-        ensures { result ≡ (nth_pair (nth_group self.now g).pairs i).value }
-    {
-        self.keyed.value(g, i)
-    }
-}
-
-/// Groups pairs whose names already rise under each key: sorts the keys, and moves each name once.
-pub(crate) fn grouped(alloc: Global, pairs: PairColumns) -> Result<Groups, AllocError>
-    requires { RisesUnderKeys pairs }
-    ensures { IfOk result (λ g. g ≡ merged (sorted pair_order pairs)) }
-{
-    let keyed = keyed_pairs(alloc, pairs)?;
-    Ok(Groups { keyed })
-}
 
 /// Groups pairs in any order: sorts them by name before. `RegionDamaged` if a name occurs twice.
 pub(crate) fn grouped_by_name(alloc: Global, pairs: &PairColumns) -> Result<Groups, MergeFault>
@@ -96,7 +20,7 @@ pub(crate) fn grouped_by_name(alloc: Global, pairs: &PairColumns) -> Result<Grou
     let Some(by_name) = pairs.in_name_order(alloc)? else {
         return Err(MergeFault::RegionDamaged);
     };
-    Ok(grouped(alloc, by_name)?)
+    Ok(group_pairs(alloc, by_name)?)
 }
 
 /// Why regions are not merged.

@@ -7,8 +7,8 @@
 //! Regions are in turn while the names of each differ and are past all names of those before. Then
 //! names rise under each key, and no name occurs twice. Map tasks give such regions. Of any others
 //! the pairs are sorted by name before they are grouped, and that finds a name that occurs twice.
-ghost use Rattle.std.specs.Prelude.{◌≡◌, ◌↔◌, ◌++◌, ◌∷◌, [], List, IfErr, IfOk, IsTrue, MatchOption};
-ghost use Rattle.std.specs.Prelude.{false, length};
+ghost use Rattle.std.specs.Prelude.{◌≡◌, ◌↔◌, ◌++◌, ◌∷◌, [], List, IfErr, IfOk, IsTrue};
+ghost use Rattle.std.specs.Prelude.{MatchOption, false, length};
 ghost use Rattle.mr_bytes.specs.Pairs.{Triple};
 ghost use Rattle.mr_spill.specs.Cursor.{EndsWithKey};
 ghost use Rattle.mr_spill.specs.Spelling.{SpellsRegion};
@@ -17,9 +17,9 @@ ghost use Rattle.mr_merge.specs.Taking.{IsPast, IsPut, IsTaken, IsUpTo};
 ghost use Rattle.mr_merge.specs.declared.merged.MergeFault.TheVariants.{RegionDamaged};
 
 use crate::distinct::RegionNames;
-use crate::merged::{Groups, MergeFault, grouped, grouped_by_name};
+use crate::merged::{MergeFault, grouped_by_name};
 use mr_bytes::{Name, compare_names};
-use mr_spill::{PairColumns, RegionPair, RegionView, open_region};
+use mr_spill::{Groups, PairColumns, RegionPair, RegionView, group_pairs, open_region};
 use std::alloc::{AllocError, Global};
 use std::cmp::Ordering;
 use std::marker::Model;
@@ -157,8 +157,8 @@ impl Reduction {
     }
 
     /// Takes the pairs of the next region; false if its bytes are no region of the partition and of
-    /// the split that comes with them. Then, and where memory is refused, some of its pairs may have
-    /// been taken, and the reduction is of no more use.
+    /// the split that comes with them. Then, and where memory is refused, some of its pairs may
+    /// have been taken, and the reduction is of no more use.
     pub fn take(&mut self, region: &RegionView<'_>) -> Result<bool, AllocError>
         ensures partition { self.new.partition ≡ self.old.partition }
         ensures taken { IfOk result (λ b. IsTrue b → (ts : List Triple)
@@ -187,7 +187,7 @@ impl Reduction {
     {
         let Reduction { in_turn, all, .. } = self;
         if in_turn {
-            return Ok(grouped(alloc, all.pairs)?);
+            return Ok(group_pairs(alloc, all.pairs)?);
         }
         grouped_by_name(alloc, &all.pairs)
     }

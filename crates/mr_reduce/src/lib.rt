@@ -83,7 +83,8 @@ fn append_listed(
 pub fn append_total(key: &[u8], total: u64, out: &mut Vec<u8>) -> Result<(), AllocError>
     ensures ok { OnOk result (out.new.items ≡ out.old.items ++ total_line key.now total) }
     ensures err { OnErr result (out.new.items ≡ out.old.items) }
-    ensures full { OnErr result (vec_capacity out.old < vec_len out.old + length (total_line key.now total)) }
+    ensures full { OnErr result
+        (vec_capacity out.old < vec_len out.old + length (total_line key.now total)) }
 {
     let before = out.len();
     let done = put_total(key, total, out);
@@ -96,7 +97,8 @@ pub fn append_total(key: &[u8], total: u64, out: &mut Vec<u8>) -> Result<(), All
 fn put_total(key: &[u8], total: u64, out: &mut Vec<u8>) -> Result<(), AllocError>
     ensures kept { take (vec_len out.old) out.new.items ≡ out.old.items }
     ensures ok { OnOk result (out.new.items ≡ out.old.items ++ total_line key.now total) }
-    ensures full { OnErr result (vec_capacity out.old < vec_len out.old + length (total_line key.now total)) }
+    ensures full { OnErr result
+        (vec_capacity out.old < vec_len out.old + length (total_line key.now total)) }
     ensures capacity { vec_capacity out.old ≤ vec_capacity out.new }
 {
     let mut digits = Buffer::new();
@@ -111,7 +113,8 @@ fn put_total(key: &[u8], total: u64, out: &mut Vec<u8>) -> Result<(), AllocError
 fn put_place(key: &[u8], value: Value, out: &mut Vec<u8>) -> Result<(), AllocError>
     ensures kept { take (vec_len out.old) out.new.items ≡ out.old.items }
     ensures ok { OnOk result (out.new.items ≡ out.old.items ++ place_line key.now value) }
-    ensures full { OnErr result (vec_capacity out.old < vec_len out.old + length (place_line key.now value)) }
+    ensures full { OnErr result
+        (vec_capacity out.old < vec_len out.old + length (place_line key.now value)) }
     ensures capacity { vec_capacity out.old ≤ vec_capacity out.new }
 {
     let Value::At { file, offset } = value else {

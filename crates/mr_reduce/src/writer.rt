@@ -43,7 +43,8 @@ impl<'k> Model for TextWriter<'k> {
 impl<'k> TextWriter<'k> {
     /// Begins the text of a key, with no values yet. Fails only for want of memory.
     pub fn begin(job: &Job, key: &'k [u8], out: &mut Vec<u8>) -> Result<TextWriter<'k>, AllocError>
-        ensures ok { IfOk result (λ w. Writes job.now key.entry.now [] out.old.items w out.new.items) }
+        ensures ok { IfOk result
+            (λ w. Writes job.now key.entry.now [] out.old.items w out.new.items) }
         ensures kept { take (vec_len out.old) out.new.items ≡ out.old.items }
         ensures full { OnErr result (vec_capacity out.old
             < vec_len out.old + length (opening (group_text_of job.now) key.entry.now)) }
@@ -64,12 +65,13 @@ impl<'k> TextWriter<'k> {
     /// Writes what the next value adds to the text. Fails only for want of memory. Then part of it
     /// may be written, behind what was there before.
     pub fn add(&mut self, value: Value, out: &mut Vec<u8>) -> Result<(), AllocError>
-        ensures ok { OnOk result ((job : JobSpec) (key : List ℕ) (values : List Emitted) (before : List ℕ)
+        ensures ok { OnOk result
+            ((job : JobSpec) (key : List ℕ) (values : List Emitted) (before : List ℕ)
             → Writes job key values before self.old out.old.items
             → Writes job key (values ++ value ∷ []) before self.new out.new.items) }
         ensures kept { take (vec_len out.old) out.new.items ≡ out.old.items }
-        ensures full { OnErr result (vec_capacity out.old
-            < vec_len out.old + length (value_text self.old.text self.old.key self.old.last value)) }
+        ensures full { OnErr result (vec_capacity out.old < vec_len out.old
+            + length (value_text self.old.text self.old.key self.old.last value)) }
     {
         self.put_value(value, out)?;
         self.count = self.count.saturating_add(1);
@@ -80,7 +82,8 @@ impl<'k> TextWriter<'k> {
     /// Writes the end of the text: with it the output has what `group_text` appends for the values.
     /// Fails only for want of memory. Then part of the end may be written.
     pub fn finish(self, out: &mut Vec<u8>) -> Result<(), AllocError>
-        ensures ok { OnOk result ((job : JobSpec) (key : List ℕ) (values : List Emitted) (before : List ℕ)
+        ensures ok { OnOk result
+            ((job : JobSpec) (key : List ℕ) (values : List Emitted) (before : List ℕ)
             → Writes job key values before self.entry out.old.items → IsWritable job values
             → out.new.items ≡ before ++ text_of job key values) }
         ensures kept { take (vec_len out.old) out.new.items ≡ out.old.items }
@@ -96,8 +99,8 @@ impl<'k> TextWriter<'k> {
         ensures kept { take (vec_len out.old) out.new.items ≡ out.old.items }
         ensures ok { OnOk result (out.new.items
             ≡ out.old.items ++ value_text self.now.text self.now.key self.now.last value) }
-        ensures full { OnErr result (vec_capacity out.old
-            < vec_len out.old + length (value_text self.now.text self.now.key self.now.last value)) }
+        ensures full { OnErr result (vec_capacity out.old < vec_len out.old
+            + length (value_text self.now.text self.now.key self.now.last value)) }
     {
         match self.text {
             GroupText::Count => Ok(()),
@@ -137,7 +140,8 @@ fn after(last: Option<u32>, value: Value) -> Option<u32>
 fn put_next_file(last: Option<u32>, value: Value, out: &mut Vec<u8>) -> Result<(), AllocError>
     ensures kept { take (vec_len out.old) out.new.items ≡ out.old.items }
     ensures ok { OnOk result (out.new.items ≡ out.old.items ++ value_file last value) }
-    ensures full { OnErr result (vec_capacity out.old < vec_len out.old + length (value_file last value)) }
+    ensures full { OnErr result
+        (vec_capacity out.old < vec_len out.old + length (value_file last value)) }
 {
     let Value::At { file, offset: _ } = value else {
         return Ok(());

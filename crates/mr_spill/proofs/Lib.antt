@@ -1,7 +1,7 @@
 pub mod CursorLemmas
 pub mod CutLemmas
 pub mod EntryLemmas
-pub mod KeyedLemmas
+pub mod GroupLemmas
 pub mod NameLemmas
 pub mod PlaceLemmas
 pub mod ReadingLemmas

@@ -1,5 +1,5 @@
 -- What the region of a partition is: it rises, it has the pairs of the partition, and it is the only such list.
-use Rattle.std.proofs.Common.{◌≡◌, ◌↔◌, ℕ, List, [], ◌∷◌, filter, ◌==◌, ap, sym, ◌∙◌, subst, inl, inr}
+use Rattle.std.proofs.Common.{◌≡◌, ◌↔◌, ℕ, Bool, List, [], ◌∷◌, filter, ◌==◌, ap, sym, ◌∙◌, subst, inl, inr}
 use Rattle.std.specs.List.{AllByRecursion}
 use Rattle.std.proofs.lemmas.Bool.{eqb-true, eq-eqb}
 use Rattle.std.proofs.lemmas.Cmp.{nat_list_cmp_total, nat_cmp_total, then_total, on_total}
@@ -12,7 +12,7 @@ use Rattle.mr_bytes.specs.Lists.{Has, HasNoTies, Rises}
 use Rattle.mr_bytes.specs.Order.{key_order, name_order}
 use Rattle.mr_bytes.specs.Pairs.{Triple, pair_order}
 use Rattle.mr_bytes.proofs.ListLaws.{Has-all, all_from_Has, Has-map, Has-filter, Has-filter_from, same_rising}
-use Rattle.mr_bytes.proofs.SortLaws.{rising_tie, sorted-Has, sorted-Has_from, sorted-rises}
+use Rattle.mr_bytes.proofs.SortLaws.{sorted-Has, sorted-Has_from, sorted-rises}
 use Rattle.mr_spill.specs.Column.{names_of}
 use Rattle.mr_spill.specs.Regions.{region, RegionsHave, RegionsRise, RisesUnderKeys}
 use Rattle.mr_group.proofs.OrderLemmas.{key_tie, then-equal}
@@ -46,20 +46,8 @@ pair_tie t u e = by (key_order t.key u.key) e
     by Equal e = e
     by Greater e = absurd (cc e)
 
--- of pairs whose names rise no two are equal
-pub no_ties : (ts : List Triple) → Rises name_order (names_of ts) → HasNoTies pair_order ts
-no_ties ts r x y h g e = rising_tie by_name by_name_total ts x y (rises-names ts r) h g (pair_tie x y e)
-
 pub regions_rise : RegionsRise
 regions_rise part ts p = sorted-rises pair_order pair_total (filter (λ t. part t.key == p) ts)
-
-pub regions_have : RegionsHave
-regions_have part ts p r t = (
-  λ h. let f = Has-filter_from (λ (u : Triple). part u.key == p) ts t (sorted-Has_from pair_order (filter (λ u. part u.key == p) ts) t h) in (f.0, eqb-true (part t.key) p f.1),
-  λ h. sorted-Has pair_order (filter (λ u. part u.key == p) ts)
-      (λ x y f g e. no_ties ts r x y (Has-filter_from (λ (u : Triple). part u.key == p) ts x f).0 (Has-filter_from (λ (u : Triple). part u.key == p) ts y g).0 e)
-      t (Has-filter (λ (u : Triple). part u.key == p) ts t h.0 (eq-eqb (part t.key) p h.1)),
-)
 
 apart : (t : Triple) (ts : List Triple) (u : Triple) → AllByRecursion (λ (w : Triple). w.key ≡ t.key → name_order t.name w.name ≡ Less) ts → Has ts u → pair_order t u ≡ Equal → ⊥
 apart t ts u all h e =
@@ -69,20 +57,38 @@ apart t ts u all h e =
     absurd (cc (names, less))
 
 -- of pairs whose names rise under each key no two are equal
-under_no_ties : (ts : List Triple) → RisesUnderKeys ts → HasNoTies pair_order ts
+pub under_no_ties : (ts : List Triple) → RisesUnderKeys ts → HasNoTies pair_order ts
 under_no_ties [] r x y h g e = absurd h
 under_no_ties (t ∷ ts) r x y (inl a) (inl b) e = sym b ∙ a
 under_no_ties (t ∷ ts) r x y (inl a) (inr b) e = absurd (apart t ts y r.0 b (subst (λ w. pair_order w y ≡ Equal) (sym a) e))
 under_no_ties (t ∷ ts) r x y (inr a) (inl b) e = absurd (apart t ts x r.0 a (pair_total.antisymm t x ∙ ap ordering_reverse (subst (λ w. pair_order x w ≡ Equal) (sym b) e)))
 under_no_ties (t ∷ ts) r x y (inr a) (inr b) e = under_no_ties ts r.1 x y a b e
 
--- a list that rises and has just the pairs of the partition is its region, where names rise under each key
+pub names-under : (ts : List Triple) → Rises name_order (names_of ts) → RisesUnderKeys ts
+names-under [] r = tt
+names-under (t ∷ ts) r = (
+  all_from_Has (λ (u : Triple). u.key ≡ t.key → name_order t.name u.name ≡ Less) ts (λ u h e. Has-all (λ n. name_order t.name n ≡ Less) (names_of ts) u.name r.0 (Has-map (λ (w : Triple). w.name) ts u h)),
+  names-under ts r.1,
+)
+
+-- where names rise under each key, the region has just the pairs of the partition
+region-has : (part : List ℕ → ℕ) (ts : List Triple) (p : ℕ) → RisesUnderKeys ts → (t : Triple) → Has (region part ts p) t ↔ (Has ts t × (part t.key ≡ p))
+region-has part ts p r t = (
+  λ h. let f = Has-filter_from here ts t (sorted-Has_from pair_order (filter here ts) t h) in (f.0, eqb-true (part t.key) p f.1),
+  λ h. sorted-Has pair_order (filter here ts)
+      (λ x y a b e. under_no_ties ts r x y (Has-filter_from here ts x a).0 (Has-filter_from here ts y b).0 e)
+      t (Has-filter here ts t h.0 (eq-eqb (part t.key) p h.1)),
+)
+  where
+    here : Triple → Bool
+    here u = part u.key == p
+
+pub regions_have : RegionsHave
+regions_have part ts p r = region-has part ts p (names-under ts r)
+
+-- and a list that rises and has just them is the region
 pub gathered-only : (part : List ℕ → ℕ) (ts : List Triple) (p : ℕ) (rs : List Triple) → RisesUnderKeys ts → Rises pair_order rs
     → ((t : Triple) → Has rs t ↔ (Has ts t × (part t.key ≡ p))) → rs ≡ region part ts p
 gathered-only part ts p rs r rise has =
     same_rising pair_total rs (region part ts p) rise (regions_rise part ts p)
-    (λ t h. let g = (has t).0 h in
-    sorted-Has pair_order (filter (λ u. part u.key == p) ts)
-    (λ x y a b e. under_no_ties ts r x y (Has-filter_from (λ (u : Triple). part u.key == p) ts x a).0 (Has-filter_from (λ (u : Triple). part u.key == p) ts y b).0 e)
-    t (Has-filter (λ (u : Triple). part u.key == p) ts t g.0 (eq-eqb (part t.key) p g.1)))
-    (λ t h. (has t).1 (let f = Has-filter_from (λ (u : Triple). part u.key == p) ts t (sorted-Has_from pair_order (filter (λ u. part u.key == p) ts) t h) in (f.0, eqb-true (part t.key) p f.1)))
+    (λ t h. (region-has part ts p r t).1 ((has t).0 h)) (λ t h. (has t).1 ((region-has part ts p r t).0 h))

@@ -3,12 +3,12 @@ pub mod Column
 pub mod Cursor
 pub mod Buffer
 pub mod Entries
-pub mod Keyed
+pub mod Groups
+pub mod Cut
 pub mod Lent
 pub mod Reading
 pub mod Regions
 pub mod Spelling
-pub mod Table
 pub mod WorkedBytes
 pub mod Sealed
 pub mod Stores

@@ -86,9 +86,14 @@ impl Buffer {
     pub fn push_key(&mut self, key: &[u8], value: Value, name: Name) -> Result<(), PushKeyFault>
         requires { Rises name_order (names_of self.old.pairs ++ name ∷ []) }
         ensures ok { OnOk result (self.new
-            ≡ record { limit = self.old.limit; pairs = self.old.pairs ++ record { key = key.now; value = value; name = name } ∷ [] }) }
+            ≡ record {
+              limit = self.old.limit;
+              pairs = self.old.pairs
+                  ++ record { key = key.now; value = value; name = name } ∷ [];
+            }) }
         ensures err { OnErr result (self.new ≡ self.old) }
-        ensures full { IfErr result (λ e. (e ≡ BufferFull) ↔ (length self.old.pairs ≡ self.old.limit)) }
+        ensures full { IfErr result
+            (λ e. (e ≡ BufferFull) ↔ (length self.old.pairs ≡ self.old.limit)) }
         ensures room { OnOk result (length self.old.pairs < self.old.limit) }
     {
         if self.pairs.len() == self.limit {

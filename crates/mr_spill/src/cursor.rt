@@ -5,7 +5,7 @@ ghost use Rattle.mr_bytes.specs.Pairs.{Triple};
 ghost use Rattle.mr_spill.specs.Cursor.{AreAhead, IsBehind, IsKeyOf, IsNextOf, IsOpened, lent_pair};
 ghost use Rattle.mr_spill.specs.Spelling.{SpellsRegion};
 
-use crate::reading::{Front, take_header, take_pair};
+use crate::reading::{take_header, take_pair};
 use mr_bytes::{Name, Value, compare_keys, compare_names};
 use std::cmp::Ordering;
 use std::marker::Model;
@@ -85,7 +85,8 @@ fn turn_of(last: Option<RegionPair<'_>>, key: &[u8], name: Name) -> Option<bool>
 
 /// Opens a region of this split and partition; `None` if the bytes don't begin with its header.
 pub fn open_region<'a>(bytes: &'a [u8], split: u32, partition: u32) -> Option<RegionCursor<'a>>
-    ensures { MatchOption result ((ts : List Triple) → SpellsRegion bytes.entry.now split partition ts → ⊥)
+    ensures { MatchOption result
+        ((ts : List Triple) → SpellsRegion bytes.entry.now split partition ts → ⊥)
         (IsOpened bytes.entry.now split partition) }
 {
     let Some((count, rest)) = take_header(bytes, split, partition) else {
@@ -120,35 +121,28 @@ impl<'a> RegionCursor<'a> {
             × ((ts : List Triple) → AreAhead self.old ts → ts ≡ []))
             (λ p. IsNextOf (lent_pair p) self.old self.new) }
         ensures last { MatchOption result Unit (λ p. self.new.last ≡ Some p) }
-        ensures again { MatchOption result Unit (λ p. IsTrue p.again → IsKeyOf self.old.last p.key.now) }
+        ensures again { MatchOption result Unit
+            (λ p. IsTrue p.again → IsKeyOf self.old.last p.key.now) }
     {
         if self.left == 0 {
             return None;
         }
-        let Some(
-            Front {
-                key,
-                value,
-                name,
-                rest,
-            },
-        ) = take_pair(self.rest)
-        else {
+        let Some(front) = take_pair(self.rest) else {
             return None;
         };
-        if name.split != self.split {
+        if front.name.split != self.split {
             return None;
         }
-        let Some(again) = turn_of(self.last, key, name) else {
+        let Some(again) = turn_of(self.last, front.key, front.name) else {
             return None;
         };
         let pair = RegionPair {
-            key,
-            value,
-            name,
+            key: front.key,
+            value: front.value,
+            name: front.name,
             again,
         };
-        self.rest = rest;
+        self.rest = front.rest;
         self.left -= 1;
         self.last = Some(pair);
         Some(pair)
@@ -157,8 +151,10 @@ impl<'a> RegionCursor<'a> {
 
 /// Whether bytes are a region of this split and partition. Walks over all of it.
 pub fn is_region(bytes: &[u8], split: u32, partition: u32) -> bool
-    ensures spelled { IsTrue result → (ts : List Triple) × SpellsRegion bytes.now split partition ts }
-    ensures damaged { result ≡ false → (ts : List Triple) → SpellsRegion bytes.now split partition ts → ⊥ }
+    ensures spelled { IsTrue result
+        → (ts : List Triple) × SpellsRegion bytes.now split partition ts }
+    ensures damaged { result ≡ false
+        → (ts : List Triple) → SpellsRegion bytes.now split partition ts → ⊥ }
 {
     let Some(mut cursor) = open_region(bytes, split, partition) else {
         return false;

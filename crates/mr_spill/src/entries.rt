@@ -1,5 +1,5 @@
 //! Values with their names: what pairs have beside their keys.
-ghost use Rattle.std.specs.Prelude.{◌≡◌, ◌++◌, ◌∷◌, [], ◌<◌, IfOk, OnOk, OnErr, length, map, take};
+ghost use Rattle.std.specs.Prelude.{◌≡◌, ◌++◌, ◌∷◌, [], ◌<◌, OnOk, OnErr, length, map, take};
 ghost use Rattle.mr_spill.specs.Entries.{nth_entry};
 
 use mr_bytes::{Name, Value, ValueColumn};
@@ -32,16 +32,6 @@ impl Entries {
             values: ValueColumn::new(alloc),
             names: Vec::new(alloc),
         }
-    }
-
-    /// No values, and room for `count` names.
-    pub fn with_room(alloc: Global, count: usize) -> Result<Entries, AllocError>
-        ensures { IfOk result (λ e. e ≡ []) }
-    {
-        Ok(Entries {
-            values: ValueColumn::new(alloc),
-            names: Vec::with_capacity(alloc, count)?,
-        })
     }
 
     /// Makes room for `more` names.
@@ -105,14 +95,6 @@ impl Entries {
     {
         self.values.truncate(count);
         self.names.truncate(count);
-    }
-
-    /// The names; the values are freed.
-    pub fn into_names(self) -> Vec<Name>
-        ensures { result.items ≡ map (λ e. e.1) self }
-    {
-        let Entries { names, .. } = self;
-        names
     }
 
     /// Empties the lists, and keeps their memory.

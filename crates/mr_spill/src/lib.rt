@@ -1,5 +1,5 @@
 //! Collects the pairs that a map task emits, and cuts them by partition into sorted regions (OSDI
-//! 2004, sections 3.1 and 4.2). A reduce task groups pairs of many regions by key (`KeyedPairs`).
+//! 2004, sections 3.1 and 4.2). A reduce task groups pairs of many regions by key (`Groups`).
 //!
 //! Pairs enter by rising name: the order of the input. A region per partition leaves, sorted by key
 //! and then name, each key stored once. As bytes it has the key of each pair, and is read back so.
@@ -14,7 +14,7 @@ mod by_name;
 mod cursor;
 mod dir_store;
 mod entries;
-mod keyed;
+mod groups;
 mod moving;
 mod pair_columns;
 mod reading;
@@ -26,7 +26,7 @@ mod store;
 pub use buffer::{Buffer, PushFault, PushKeyFault};
 pub use cursor::{RegionCursor, RegionPair, RegionView, is_region, open_region};
 pub use dir_store::{DirStore, DiskScratch, MemoryScratch, Scratch, ScratchFault};
-pub use keyed::{KeyedPairs, keyed_pairs};
+pub use groups::{Groups, group_pairs};
 pub use pair_columns::PairColumns;
 pub use reading::{RegionFault, read_region};
 pub use regions::spill_law;

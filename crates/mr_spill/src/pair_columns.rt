@@ -14,7 +14,7 @@ use mr_group::KeyColumn;
 use std::alloc::{AllocError, Global};
 use std::marker::Model;
 
-/// Pairs with their names, in order. More than 4 Gi pairs fail as want of memory, and so do 4 GiB of
+/// Pairs with their names, in order. Over 4 Gi pairs fail as want of memory, and so do 4 GiB of
 /// distinct keys.
 #[derive(Drop)]
 pub struct PairColumns {
@@ -26,7 +26,7 @@ pub struct PairColumns {
 impl Model for PairColumns {
     ghost use Rattle.std.specs.Prelude.{◌≡◌, ◌<◌, ◌^◌, List, length};
     ghost use Rattle.mr_bytes.specs.Pairs.{Triple};
-    ghost use Rattle.mr_spill.specs.Table.{beside};
+    ghost use Rattle.mr_spill.specs.Entries.{beside};
 
     ghost Value = { List Triple };
 
@@ -121,8 +121,11 @@ impl PairColumns {
     #[inline(always)]
     pub(crate) fn push_again(&mut self, value: Value, name: Name) -> Result<(), AllocError>
         requires { 0 < length self.old }
-        ensures ok { OnOk result (self.new
-            ≡ self.old ++ record { key = (nth_pair self.old (length self.old - 1)).key; value = value; name = name } ∷ []) }
+        ensures ok { OnOk result (self.new ≡ self.old ++ record {
+          key = (nth_pair self.old (length self.old - 1)).key;
+          value = value;
+          name = name;
+        } ∷ []) }
         ensures err { OnErr result (self.new ≡ self.old) }
     {
         let count = self.keys.len();

@@ -88,7 +88,8 @@ fn take_name<'a>(bytes: &'a [u8]) -> Option<(Name, &'a [u8])>
 }
 
 fn take_value<'a>(bytes: &'a [u8]) -> Option<(Value, &'a [u8])>
-    ensures { MatchOption result ((v : Carried) (rest : List ℕ) → bytes.entry.now ≡ value_bytes v ++ rest → ⊥)
+    ensures { MatchOption result
+        ((v : Carried) (rest : List ℕ) → bytes.entry.now ≡ value_bytes v ++ rest → ⊥)
         (λ r. bytes.entry.now ≡ value_bytes (r.0) ++ r.1.now) }
 {
     let (kind, rest) = bytes.split_first()?;
@@ -154,12 +155,8 @@ pub(crate) fn take_header<'a>(
     let Some(behind_split) = take_this(behind_magic, split) else {
         return None;
     };
-    let Some(behind_partition) = take_this(behind_split, partition) else {
-        return None;
-    };
-    let Some((count, rest)) = take_number(behind_partition) else {
-        return None;
-    };
+    let behind_partition = take_this(behind_split, partition)?;
+    let (count, rest) = take_number(behind_partition)?;
     Some((count, rest))
 }
 

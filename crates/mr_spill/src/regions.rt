@@ -1,52 +1,47 @@
 //! Cuts pairs by partition into sorted regions: each key's pairs go to the region of its partition.
-ghost use Rattle.std.specs.Prelude.{◌≡◌, ℕ, ◌<◌, ◌++◌, [], All, IfOk, OnOk, length, slice_index_or};
+ghost use Rattle.std.specs.Prelude.{◌≡◌, ◌<◌, ◌≤◌, ◌++◌, IfOk, OnOk, length, slice_range};
+ghost use Rattle.std.specs.List.{flat_map};
 ghost use Rattle.mr_partition.specs.Hosts.{partition_by};
-ghost use Rattle.mr_spill.specs.Keyed.{nth_key, pairs_in, pairs_with};
+ghost use Rattle.mr_spill.specs.Groups.{pairs_of, nth_group};
 ghost use Rattle.mr_spill.specs.Regions.{RegionsHave, RegionsRise, RisesUnderKeys, regions};
 
-use crate::keyed::{KeyedPairs, cut_pairs};
+use crate::groups::{Groups, cut_pairs, range_of};
 use crate::pair_columns::PairColumns;
 use mr_bytes::By;
 use std::alloc::{AllocError, Global};
 
-/// Appends the pairs of key `k`; they share its bytes.
-fn put_key(pairs: &KeyedPairs, k: usize, region: &mut PairColumns) -> Result<(), AllocError>
-    requires { k < length pairs.now }
-    ensures { OnOk result (region.new ≡ region.old ++ pairs_with (nth_key pairs.now k)) }
+/// Appends the pairs of group `g`; they share the bytes of its key.
+fn put_group(groups: &Groups, g: usize, region: &mut PairColumns) -> Result<(), AllocError>
+    requires { g < length groups.now }
+    ensures { OnOk result (region.new ≡ region.old ++ (nth_group groups.now g).pairs) }
 {
-    let count = pairs.count(k);
-    let (value, name) = pairs.get(k, 0);
-    region.push(pairs.key(k), value, name)?;
+    let count = groups.count(g);
+    let (value, name) = groups.get(g, 0);
+    region.push(groups.key(g), value, name)?;
     for i in 1..count {
-        let (value, name) = pairs.get(k, i);
+        let (value, name) = groups.get(g, i);
         region.push_again(value, name)?;
     }
     Ok(())
 }
 
-/// Appends the pairs of each key to the region of its partition.
-fn put_keys(pairs: &KeyedPairs, regions: &mut Vec<PairColumns>) -> Result<(), AllocError>
-    requires parts { All (λ k. k.part < length regions.old.items) pairs.now }
-    ensures count { length regions.new.items ≡ length regions.old.items }
-    ensures put { OnOk result ((p : ℕ) → p < length regions.old.items → slice_index_or regions.new.items p []
-        ≡ slice_index_or regions.old.items p [] ++ pairs_in pairs.now p) }
+/// The pairs of some groups that follow one another.
+fn region_of(
+    alloc: Global,
+    groups: &Groups,
+    range: (usize, usize),
+) -> Result<PairColumns, AllocError>
+    requires order { range.0 ≤ range.1 }
+    requires within { range.1 ≤ length groups.now }
+    ensures { IfOk result
+        (λ r. r ≡ flat_map pairs_of (slice_range groups.now (range.0) (range.1))) }
 {
-    for k in 0..pairs.len() {
-        let region = &mut regions[pairs.part(k) as usize];
-        put_key(pairs, k, region)?;
+    let (begin, end) = range;
+    let mut region = PairColumns::new(alloc);
+    for g in begin..end {
+        put_group(groups, g, &mut region)?;
     }
-    Ok(())
-}
-
-fn empty_regions(alloc: Global, parts: u32) -> Result<Vec<PairColumns>, AllocError>
-    ensures count { IfOk result (λ v. length v.items ≡ parts) }
-    ensures empty { IfOk result (λ v. (p : ℕ) → slice_index_or v.items p [] ≡ []) }
-{
-    let mut regions = Vec::with_capacity(alloc, parts as usize)?;
-    for _ in 0..parts {
-        regions.push(PairColumns::new(alloc))?;
-    }
-    Ok(regions)
+    Ok(region)
 }
 
 /// A region per partition, in order, of pairs whose names rise under each key.
@@ -60,9 +55,11 @@ pub(crate) fn cut(
     requires rise { RisesUnderKeys pairs.now }
     ensures { IfOk result (λ v. v.items ≡ regions (λ k. partition_by by k parts) parts pairs.now) }
 {
-    let pairs = cut_pairs(alloc, pairs, by, parts)?;
-    let mut regions = empty_regions(alloc, parts)?;
-    put_keys(&pairs, &mut regions)?;
+    let cut = cut_pairs(alloc, pairs, by, parts)?;
+    let mut regions = Vec::with_capacity(alloc, parts as usize)?;
+    for part in 0..parts as usize {
+        regions.push(region_of(alloc, &cut.groups, range_of(cut.ends.as_slice(), part))?)?;
+    }
     Ok(regions)
 }
 

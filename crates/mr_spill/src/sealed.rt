@@ -1,17 +1,17 @@
-//! Cuts the pairs of a run by partition into sorted regions, and writes these as bytes at once: a
-//! header for each, and then each key's pairs behind what its partition has so far.
-ghost use Rattle.std.specs.Prelude.{◌≡◌, ℕ, ◌+◌, ◌<◌, ◌^◌, ◌++◌, [], IfOk, OnOk, OnErr};
-ghost use Rattle.std.specs.Prelude.{All, length, map, slice_index_or};
+//! Cuts the pairs of a run by partition into sorted regions, and writes each as bytes at once: a
+//! header, and then the pairs key by key.
+ghost use Rattle.std.specs.Prelude.{◌≡◌, ◌+◌, ◌<◌, ◌≤◌, ◌^◌, ◌++◌, [], IfOk, OnOk, OnErr};
+ghost use Rattle.std.specs.Prelude.{length, map, slice_index_or, slice_range};
 ghost use Rattle.std.specs.List.{AllByRecursion, flat_map};
 ghost use Rattle.mr_partition.specs.Hosts.{partition_by};
-ghost use Rattle.mr_spill.specs.Keyed.{nth_key, pairs_in, pairs_with};
+ghost use Rattle.mr_spill.specs.Groups.{AreWithin, pairs_of, nth_group};
 ghost use Rattle.mr_spill.specs.Regions.{region};
-ghost use Rattle.mr_spill.specs.Sealed.{HaveSizes, SpellsRun, nth_size, text_at};
-ghost use Rattle.mr_spill.specs.Spelling.{PairFits, header, pair_bytes, value_bytes};
+ghost use Rattle.mr_spill.specs.Sealed.{AreTexts, IsText, SpellsRun};
+ghost use Rattle.mr_spill.specs.Spelling.{PairFits, pair_bytes};
 
 use crate::buffer::Buffer;
 use crate::cursor::RegionView;
-use crate::keyed::{KeyedPairs, cut_pairs};
+use crate::groups::{Cut, Groups, cut_pairs, range_of};
 use crate::spelling::{put_header, put_pair};
 use mr_bytes::{By, Value};
 use std::alloc::{AllocError, Global};
@@ -51,7 +51,8 @@ impl SealedRun {
     /// The region of partition `p`, from 0.
     pub fn region(&self, p: u32) -> RegionView<'_>
         requires { p < length self.now.regions }
-        ensures { result ≡ record { split = self.now.split; bytes = slice_index_or self.now.regions p [] } }
+        ensures { result
+            ≡ record { split = self.now.split; bytes = slice_index_or self.now.regions p [] } }
     {
         RegionView::of(self.regions[p as usize].as_slice(), self.split)
     }
@@ -72,95 +73,94 @@ pub(crate) struct Size {
     bytes: usize,
 }
 
-fn value_size(value: Value) -> usize
-    ensures { result ≡ length (value_bytes value) }
+/// The size with the pairs of group `g`. Over 4 Gi pairs fail as want of memory.
+fn with_group(size: Size, groups: &Groups, g: usize) -> Result<Size, AllocError>
+    requires { g < length groups.now }
+    ensures { IfOk result (λ s. s.count ≡ size.count + length (nth_group groups.now g).pairs) }
 {
-    match value {
-        Value::One => 1,
-        Value::At { .. } => 13,
-    }
-}
-
-/// The size with the pairs of key `k`. Over 4 Gi pairs fail as want of memory.
-fn with_key(size: Size, pairs: &KeyedPairs, k: usize) -> Result<Size, AllocError>
-    requires { k < length pairs.now }
-    ensures { IfOk result (λ s. s.count ≡ size.count + length (nth_key pairs.now k).entries) }
-{
-    let more = pairs.count(k);
+    let more = groups.count(g);
     if more > (u32::MAX - size.count) as usize {
         return Err(AllocError);
     }
-    let (value, _) = pairs.get(k, 0);
-    let each = pairs.key(k).len().saturating_add(16 + value_size(value));
+    let beside = if matches!(groups.value(g, 0), Value::One) {
+        17
+    } else {
+        29
+    };
+    let each = groups.key(g).len().saturating_add(beside);
     Ok(Size {
         count: size.count + more as u32,
         bytes: size.bytes.saturating_add(more.saturating_mul(each)),
     })
 }
 
-/// The size of each partition's region.
-fn sizes_of(alloc: Global, pairs: &KeyedPairs, parts: u32) -> Result<Vec<Size>, AllocError>
-    requires parts { All (λ k. k.part < parts) pairs.now }
-    ensures count { IfOk result (λ v. length v.items ≡ parts) }
-    ensures sizes { IfOk result (λ v. HaveSizes pairs.now v.items) }
+/// The size of the region of some groups that follow one another.
+fn size_of(groups: &Groups, begin: usize, end: usize) -> Result<Size, AllocError>
+    requires order { begin ≤ end }
+    requires within { end ≤ length groups.now }
+    ensures { IfOk result (λ s. s.count
+        ≡ length (flat_map pairs_of (slice_range groups.now begin end))) }
 {
-    let none = Size {
+    let mut size = Size {
         count: 0,
         bytes: 20,
     };
-    let mut sizes = vec![in alloc; none; parts as usize]?;
-    for k in 0..pairs.len() {
-        let part = pairs.part(k) as usize;
-        sizes[part] = with_key(sizes[part], pairs, k)?;
+    for g in begin..end {
+        size = with_group(size, groups, g)?;
     }
-    Ok(sizes)
+    Ok(size)
 }
 
-/// A header for each region, and room for the rest of it.
-fn headers(alloc: Global, sizes: &[Size], split: u32) -> Result<Vec<Vec<u8>>, AllocError>
-    requires { length sizes.now < 2 ^ 32 }
-    ensures count { IfOk result (λ v. length v.items ≡ length sizes.now) }
-    ensures headers { IfOk result (λ v. (p : ℕ) → p < length sizes.now
-        → text_at v.items p ≡ header split p (nth_size sizes.now p).count) }
-{
-    let mut texts = Vec::with_capacity(alloc, sizes.len())?;
-    for part in 0..sizes.len() {
-        let size = sizes[part];
-        let mut text = Vec::with_capacity(alloc, size.bytes)?;
-        put_header(&mut text, split, part as u32, size.count)?;
-        texts.push(text)?;
-    }
-    Ok(texts)
-}
-
-/// Appends the pairs of key `k`.
-fn spell_key(pairs: &KeyedPairs, k: usize, text: &mut Vec<u8>) -> Result<(), AllocError>
-    requires { k < length pairs.now }
+/// Appends the pairs of group `g`.
+fn spell_group(groups: &Groups, g: usize, text: &mut Vec<u8>) -> Result<(), AllocError>
+    requires { g < length groups.now }
     ensures text { OnOk result (text.new.items
-        ≡ text.old.items ++ flat_map pair_bytes (pairs_with (nth_key pairs.now k))) }
-    ensures fit { OnOk result (AllByRecursion PairFits (pairs_with (nth_key pairs.now k))) }
+        ≡ text.old.items ++ flat_map pair_bytes (nth_group groups.now g).pairs) }
+    ensures fit { OnOk result (AllByRecursion PairFits (nth_group groups.now g).pairs) }
 {
-    let key = pairs.key(k);
-    for i in 0..pairs.count(k) {
-        let (value, name) = pairs.get(k, i);
+    let key = groups.key(g);
+    for i in 0..groups.count(g) {
+        let (value, name) = groups.get(g, i);
         put_pair(text, key, value, name)?;
     }
     Ok(())
 }
 
-/// Appends the pairs of each key to the text of its partition.
-fn spell_keys(pairs: &KeyedPairs, texts: &mut Vec<Vec<u8>>) -> Result<(), AllocError>
-    requires parts { All (λ k. k.part < length texts.old.items) pairs.now }
-    ensures count { length texts.new.items ≡ length texts.old.items }
-    ensures text { OnOk result ((p : ℕ) → p < length texts.old.items → text_at texts.new.items p
-        ≡ text_at texts.old.items p ++ flat_map pair_bytes (pairs_in pairs.now p)) }
-    ensures fit { OnOk result ((p : ℕ) → AllByRecursion PairFits (pairs_in pairs.now p)) }
+/// The region of some groups that follow one another.
+fn spelled(
+    alloc: Global,
+    groups: &Groups,
+    range: (usize, usize),
+    split: u32,
+    part: u32,
+) -> Result<Vec<u8>, AllocError>
+    requires order { range.0 ≤ range.1 }
+    requires within { range.1 ≤ length groups.now }
+    ensures { IfOk result (λ v. IsText split part
+        (flat_map pairs_of (slice_range groups.now (range.0) (range.1))) v.items) }
 {
-    for k in 0..pairs.len() {
-        let text = &mut texts[pairs.part(k) as usize];
-        spell_key(pairs, k, text)?;
+    let (begin, end) = range;
+    let size = size_of(groups, begin, end)?;
+    let mut text = Vec::with_capacity(alloc, size.bytes)?;
+    put_header(&mut text, split, part, size.count)?;
+    for g in begin..end {
+        spell_group(groups, g, &mut text)?;
     }
-    Ok(())
+    Ok(text)
+}
+
+/// The regions of all partitions.
+fn spelled_all(alloc: Global, cut: &Cut, split: u32) -> Result<Vec<Vec<u8>>, AllocError>
+    requires few { length cut.now.ends.items < 2 ^ 32 }
+    requires within { AreWithin (length cut.now.groups) cut.now.ends.items }
+    ensures { IfOk result (λ v. AreTexts split cut.now.groups cut.now.ends.items v.items) }
+{
+    let mut texts = Vec::with_capacity(alloc, cut.ends.len())?;
+    for part in 0..cut.ends.len() {
+        let range = range_of(cut.ends.as_slice(), part);
+        texts.push(spelled(alloc, &cut.groups, range, split, part as u32)?)?;
+    }
+    Ok(texts)
 }
 
 impl Buffer {
@@ -180,10 +180,8 @@ impl Buffer {
         ensures empty { OnOk result (self.new ≡ record { limit = self.old.limit; pairs = [] }) }
         ensures err { OnErr result (self.new ≡ self.old) }
     {
-        let pairs = cut_pairs(alloc, &self.pairs, by, parts)?;
-        let sizes = sizes_of(alloc, &pairs, parts)?;
-        let mut regions = headers(alloc, sizes.as_slice(), split)?;
-        spell_keys(&pairs, &mut regions)?;
+        let cut = cut_pairs(alloc, &self.pairs, by, parts)?;
+        let regions = spelled_all(alloc, &cut, split)?;
         self.pairs.clear();
         Ok(SealedRun { split, regions })
     }

@@ -96,7 +96,8 @@ pub(crate) fn put_pair(
 
 fn put_nth(out: &mut Vec<u8>, pairs: &PairColumns, i: usize) -> Result<(), AllocError>
     requires { i < length pairs.now }
-    ensures text { OnOk result (out.new.items ≡ out.old.items ++ pair_bytes (nth_pair pairs.now i)) }
+    ensures text { OnOk result
+        (out.new.items ≡ out.old.items ++ pair_bytes (nth_pair pairs.now i)) }
     ensures fits { OnOk result (PairFits (nth_pair pairs.now i)) }
 {
     put_pair(out, pairs.key(i), pairs.value(i), pairs.name(i))

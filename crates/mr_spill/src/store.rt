@@ -19,9 +19,9 @@ pub enum PutFault {
 }
 
 impl From<AllocError> for PutFault {
-    ghost use Rattle.mr_spill.specs.declared.store.PutFault.TheVariants.{OutOfMemory as told_memory};
+    ghost use Rattle.mr_spill.specs.declared.store.PutFault.TheVariants.{OutOfMemory as no_memory};
 
-    ghost from_gives = { λ _ f. f ≡ told_memory };
+    ghost from_gives = { λ _ f. f ≡ no_memory };
 
     fn from(_fault: AllocError) -> PutFault {
         PutFault::OutOfMemory
@@ -41,9 +41,9 @@ pub enum GetFault {
 }
 
 impl From<AllocError> for GetFault {
-    ghost use Rattle.mr_spill.specs.declared.store.GetFault.TheVariants.{OutOfMemory as told_memory};
+    ghost use Rattle.mr_spill.specs.declared.store.GetFault.TheVariants.{OutOfMemory as no_memory};
 
-    ghost from_gives = { λ _ f. f ≡ told_memory };
+    ghost from_gives = { λ _ f. f ≡ no_memory };
 
     fn from(_fault: AllocError) -> GetFault {
         GetFault::OutOfMemory

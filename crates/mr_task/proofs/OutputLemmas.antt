@@ -17,7 +17,7 @@ use Rattle.mr_certform.specs.Flat.{chunks, total}
 use Rattle.mr_merge.specs.Reduction.{Collected, IsOfRegions}
 use Rattle.mr_merge.proofs.TakingLemmas.{spelled-one}
 use Rattle.mr_merge.specs.Merged.{Group, group_of, joined, merged}
-use Rattle.mr_merge.specs.Groups.{no_group, nth_group}
+use Rattle.mr_spill.specs.Groups.{no_group, nth_group}
 use Rattle.mr_sequential.specs.Rules.{Key, Text}
 use Rattle.mr_sequential.proofs.SourceLemmas.{flat_map-append}
 use Rattle.mr_spill.specs.Column.{names_of}

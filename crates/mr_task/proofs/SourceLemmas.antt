@@ -1,7 +1,8 @@
 -- What a split emits without the records that are left out, record by record; and its names rise.
-use Rattle.std.proofs.Common.{◌≡◌, ℕ, zero, suc, ◌+◌, ◌<◌, ◌≤◌, Bool, true, false, not, ◌&&◌, ◌==◌, cond, List, [], ◌∷◌, ◌++◌, length, get_or, filter, take, drop, refl, sym, ◌∙◌, ap, subst, arith, append_assoc}
-use Rattle.std.proofs.lemmas.List.{append-nil, map-append, take_more, drop_more, take_all, take-append-drop, drop-append-le, length-take-le}
-use Rattle.std.proofs.Math.Seq.{take-nil, drop-nil}
+use Rattle.std.proofs.Common.{◌≡◌, ℕ, ◌+◌, ◌-◌, ◌<◌, ◌≤◌, Bool, true, false, not, ◌&&◌, ◌==◌, cond, List, [], ◌∷◌, ◌++◌, length, get_or, filter, take, drop, slice_range, refl, sym, ◌∙◌, ap, subst, arith, append_assoc}
+use Rattle.std.proofs.lemmas.List.{append-nil, map-append, take_more, drop_more, take_all, take-append-drop, drop-append-le, drop-take, length-take-le, take-take}
+use Rattle.std.proofs.lemmas.List.Elements.{filter-append}
+use Rattle.std.proofs.lemmas.List.Folds.{drop_split}
 use Rattle.std.specs.List.{flat_map}
 use Rattle.std.specs.declared.cmp.Ordering.TheVariants.{Less}
 use Rattle.mr_bytes.specs.declared.By.TheVariants.{Key}
@@ -23,14 +24,6 @@ use Rattle.mr_task.specs.Values.{emitted_between, emitted_in, has_number, is_of,
 use Rattle.mr_task.proofs.RunLemmas.{back-rises, front-rises}
 
 -- ---- record by record
-
-filter-append : {X : Type 0} (p : X → Bool) (xs ys : List X) → filter p (xs ++ ys) ≡ filter p xs ++ filter p ys
-filter-append p [] ys = refl
-filter-append {X} p (x ∷ xs) ys =
-    elim (p x) as (λ b. cond b (x ∷ filter p (xs ++ ys)) (filter p (xs ++ ys)) ≡ cond b (x ∷ filter p xs) (filter p xs) ++ filter p ys) [
-      | true ↦ ap (λ l. x ∷ l) (filter-append p xs ys)
-      | false ↦ filter-append p xs ys
-    ]
 
 -- the pairs of a record are all of the split and kept, or none is
 filter-placed : (split : ℕ) (skips : List ℕ) (name : RecordName) (place : ℕ) (es : List Emission)
@@ -83,17 +76,11 @@ between-same job size files split numbers skips from next same =
 
 pieces-join : {X : Type 0} (xs : List X) (from mid next : ℕ) → from ≤ mid → mid ≤ next
     → drop from (take mid xs) ++ drop mid (take next xs) ≡ drop from (take next xs)
-pieces-join {X} [] from mid next g h =
-    ap (λ (l : List X). drop from l ++ drop mid (take next [])) (take-nil mid)
-    ∙ ap (λ (l : List X). l ++ drop mid (take next [])) (drop-nil from)
-    ∙ ap (λ (l : List X). drop mid l) (take-nil next) ∙ drop-nil mid
-    ∙ sym (ap (λ (l : List X). drop from l) (take-nil next) ∙ drop-nil from)
-pieces-join (x ∷ xs) zero zero next g h = refl
-pieces-join (x ∷ xs) zero (suc mid) zero g h = absurd (omega (arith, h))
-pieces-join (x ∷ xs) zero (suc mid) (suc next) g h = ap (λ l. x ∷ l) (pieces-join xs zero mid next (omega arith) (omega (arith, h)))
-pieces-join (x ∷ xs) (suc from) zero next g h = absurd (omega (arith, g))
-pieces-join (x ∷ xs) (suc from) (suc mid) zero g h = absurd (omega (arith, h))
-pieces-join (x ∷ xs) (suc from) (suc mid) (suc next) g h = pieces-join xs from mid next (omega (arith, g)) (omega (arith, h))
+pieces-join {X} xs from mid next g h =
+    let all : List X = take next xs in
+    let first : drop from (take mid xs) ≡ slice_range all from mid =
+    ap (drop from) (sym (take-take mid next xs h) ∙ ap (λ n. take n all) (let e : mid ≡ from + (mid - from) = omega (arith, g) in e)) ∙ drop-take from (mid - from) all in
+    ap (λ (l : List X). l ++ drop mid all) first ∙ sym (drop_split all from mid g)
 
 between-join : {X : Type 0} (f : X → List Triple) (rs : List X) (from mid next : ℕ) → from ≤ mid → mid ≤ next
     → flat_map f (drop from (take mid rs)) ++ flat_map f (drop mid (take next rs)) ≡ flat_map f (drop from (take next rs))
@@ -110,9 +97,7 @@ pieces_are_all job size files split skips =
 
 -- no record gives nothing
 pub nothing-between : {X : Type 0} (xs : List X) (n : ℕ) → drop n (take n xs) ≡ []
-nothing-between xs zero = refl
-nothing-between [] (suc n) = refl
-nothing-between (x ∷ xs) (suc n) = nothing-between xs n
+nothing-between xs n = ap (λ m. drop n (take m xs)) (let e : n ≡ n + 0 = omega arith in e) ∙ drop-take n 0 xs
 
 -- ---- their names rise
 

@@ -212,8 +212,10 @@ fn take_records<D: Cancellation>(
     ensures alike { OnOk result (AreAlike runs.old runs.new) }
     ensures own { OnOk result (AreOf runs.new.split runs.new.buffer.pairs) }
     ensures taken { IfOk result (λ next. HasTaken
-        (between records.now.plan.now records.now.job.now runs.old.split records.now.left_out.items from next) runs.new) }
-    ensures least { IfOk result (λ next. from + least ≤ record_count records.now.plan.now runs.old.split
+        (between records.now.plan.now records.now.job.now runs.old.split
+        records.now.left_out.items from next) runs.new) }
+    ensures least { IfOk result
+        (λ next. from + least ≤ record_count records.now.plan.now runs.old.split
         → from + least ≤ next) }
     ensures within { IfOk result (λ next. next ≤ record_count records.now.plan.now runs.old.split) }
 {

@@ -3,7 +3,7 @@ ghost use Rattle.std.specs.Prelude.{◌≡◌, ◌<◌, ◌^◌, ◌≤◌, ◌+
 ghost use Rattle.std.specs.Prelude.{OnOk, length, map, ◌/◌, OnErr};
 ghost use Rattle.std.specs.List.{AllByRecursion, flat_map};
 ghost use Rattle.mr_certform.specs.Flat.{chunks, total};
-ghost use Rattle.mr_merge.specs.Groups.{nth_group};
+ghost use Rattle.mr_spill.specs.Groups.{nth_group};
 ghost use Rattle.mr_reduce.specs.Text.{text_of};
 ghost use Rattle.mr_task.specs.Mapped.{nth_run, region_of, regions_at};
 ghost use Rattle.mr_task.specs.Outputs.{flipped, with_other_bit};
@@ -117,7 +117,10 @@ impl Model for ReduceOutput {
 
     ghost Value = { Reduced };
 
-    ghost view = { λ o. record { output = o.text.items; groups = chunks o.counts.items o.names.items } };
+    ghost view = { λ o. record {
+      output = o.text.items;
+      groups = chunks o.counts.items o.names.items;
+    } };
 
     ghost invariant = { λ o. record {
       some_entry : AllByRecursion (λ n. 1 ≤ n) o.counts.items;
@@ -341,7 +344,7 @@ impl Stored {
     /// Appends the number of the next region. Those of a run follow one another by partition.
     pub fn push(&mut self, number: u64) -> Result<(), AllocError>
         ensures ok { OnOk result
-            (self.new ≡ record { parts = self.old.parts; worker = self.old.worker; numbers = self.old.numbers ++ number ∷ [] }) }
+            (self.new ≡ record self.old { numbers = self.old.numbers ++ number ∷ [] }) }
         ensures err { OnErr result (self.new ≡ self.old) }
     {
         self.numbers.push(number)?;

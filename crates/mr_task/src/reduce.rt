@@ -136,11 +136,13 @@ pub fn worked_tasks()
     ensures other_left_out { map_value only_partition emitted_letters 0 (1 ∷ []) 0 ≡ letters }
     ensures other_split { map_value only_partition emitted_letters 1 [] 0 ≡ [] }
     ensures one_run { IsCutOf only_partition 1 emitted_letters ((letters ∷ []) ∷ []) }
-    ensures two_runs { IsCutOf only_partition 1 emitted_letters ((first_run ∷ second_run ∷ []) ∷ []) }
+    ensures two_runs { IsCutOf only_partition 1 emitted_letters
+        ((first_run ∷ second_run ∷ []) ∷ []) }
     ensures not_cut { IsCutOf only_partition 1 emitted_letters ((first_run ∷ []) ∷ []) → ⊥ }
     ensures reduced { reduce_value (text_of (WordCount false)) (letters ∷ []) ≡ letters_reduced }
     ensures reduced_runs { reduce_value (text_of (WordCount false)) (first_run ∷ second_run ∷ [])
         ≡ letters_reduced }
-    ensures nothing { reduce_value (text_of (WordCount false)) [] ≡ record { output = []; groups = [] } }
+    ensures nothing { reduce_value (text_of (WordCount false)) []
+        ≡ record { output = []; groups = [] } }
     ensures twice { AreSound (letters ∷ letters ∷ []) → ⊥ }
 {}

@@ -108,7 +108,8 @@ impl Runs {
         ensures taken { OnOk result
             (Takes (record { key = key.now; value = value; name = name } ∷ []) self.old self.new) }
         ensures waiting { OnOk result
-            (AreNext (record { key = key.now; value = value; name = name }) self.old.buffer.pairs self.new.buffer.pairs) }
+            (AreNext (record { key = key.now; value = value; name = name })
+            self.old.buffer.pairs self.new.buffer.pairs) }
     {
         match self.buffer.push_key(key, value, name) {
             Ok(()) => Ok(()),
@@ -135,13 +136,16 @@ impl Runs {
         requires here { number.split ≡ self.old.split }
         requires small { length line.bytes.now ≤ 2 ^ 30 }
         requires line { IsLine mapper.old.files line.file line.start line.bytes.now }
-        requires rise { Rises name_order
-            (names_of (self.old.buffer.pairs ++ placed_from number 0 (emissions mapper.old.job line.file line.start line.bytes.now))) }
+        requires rise { Rises name_order (names_of (self.old.buffer.pairs
+            ++ placed_from number 0
+            (emissions mapper.old.job line.file line.start line.bytes.now))) }
         ensures same { mapper.new ≡ mapper.old }
         ensures alike { OnOk result (AreAlike self.old self.new) }
         ensures own { OnOk result (AreOf self.new.split self.new.buffer.pairs) }
         ensures taken { OnOk result (Takes
-            (placed_from number 0 (emissions mapper.old.job line.entry.file line.entry.start line.entry.bytes.now)) self.old self.new) }
+            (placed_from number 0 (emissions
+            mapper.old.job line.entry.file line.entry.start line.entry.bytes.now))
+            self.old self.new) }
     {
         let mut emitter = mapper.emit(line.file, line.start, line.bytes)?.emitter();
         let mut place = 0;

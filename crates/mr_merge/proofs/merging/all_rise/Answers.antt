@@ -2,7 +2,7 @@ use denote.Ref.{Bor}
 use Rattle.std.proofs.Common.{List, arith}
 use Rattle.mr_bytes.specs.Lists.{Rises}
 use Rattle.mr_bytes.specs.Pairs.{Triple, pair_order}
-use Rattle.mr_merge.proofs.SoundLemmas.{All-at}
+use Rattle.mr_merge.proofs.GatherLemmas.{All-at}
 use Rattle.mr_merge.proofs.merging.all_rise.Goals as goal
 
 pub returns-then-not-pairs_rise : goal.returns-then-not-pairs_rise

@@ -1,7 +1,7 @@
 use Rattle.std.proofs.Common.{◌≡◌, ℕ, ◌<◌, ◌≤◌, ◌++◌, List, [], ◌∷◌, length, map, take, subst, ap, sym, ◌∙◌, arith}
 use Rattle.std.proofs.lemmas.List.{map-append, take_more}
 use Rattle.std.specs.List.{AllByRecursion}
-use Rattle.mr_merge.specs.Groups.{no_group, nth_group}
+use Rattle.mr_spill.specs.Groups.{no_group, nth_group}
 use Rattle.mr_merge.specs.Merged.{Group}
 use Rattle.mr_task.proofs.OutputLemmas.{some-more}
 use Rattle.mr_task.proofs.output.pair_counts.Goals as goal

@@ -3,7 +3,7 @@ use Rattle.std.proofs.lemmas.List.{length-map, length-take, map-append, take_mor
 use Rattle.mr_bytes.specs.declared.Value.{Value}
 use Rattle.mr_bytes.specs.Pairs.{Triple}
 use Rattle.mr_spill.specs.Column.{no_pair, nth_pair}
-use Rattle.mr_merge.specs.Groups.{nth_group}
+use Rattle.mr_spill.specs.Groups.{nth_group}
 use Rattle.mr_task.proofs.output.put_values.Goals as goal
 
 pub push-requires : goal.push-requires

@@ -1,5 +1,5 @@
 use Rattle.std.proofs.Common.{◌≡◌, map, take}
-use Rattle.mr_merge.specs.Groups.{nth_group}
+use Rattle.mr_spill.specs.Groups.{nth_group}
 use Rattle.mr_task.proofs.output.put_values.Given as goal
 
 abbrev pub invariant-loop-i : goal.invariant-loop-i

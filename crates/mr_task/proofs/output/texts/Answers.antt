@@ -1,5 +1,5 @@
 use Rattle.std.proofs.Common.{◌++◌, List, ap, sym, ◌∙◌, arith}
-use Rattle.mr_merge.specs.Groups.{nth_group}
+use Rattle.mr_spill.specs.Groups.{nth_group}
 use Rattle.mr_merge.specs.Merged.{Group}
 use Rattle.mr_reduce.specs.Text.{text_of}
 use Rattle.mr_sequential.specs.Rules.{Text}

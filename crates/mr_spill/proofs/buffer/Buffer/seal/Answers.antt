@@ -1,4 +1,4 @@
-use Rattle.mr_spill.proofs.RowLemmas.{names-under}
+use Rattle.mr_spill.proofs.RegionLaws.{names-under}
 use Rattle.mr_spill.proofs.buffer.Buffer.seal.Goals as goal
 
 pub cut-requires-clause-rise : goal.cut-requires-clause-rise

@@ -1,7 +1,6 @@
 use Rattle.std.proofs.Common.{ℕ, List, [], ◌∷◌, ◌++◌, ap, ◌∙◌}
 use Rattle.mr_bytes.specs.Pairs.{Triple}
-use Rattle.mr_spill.specs.Entries.{Entry}
-use Rattle.mr_spill.specs.Table.{beside}
+use Rattle.mr_spill.specs.Entries.{Entry, beside}
 use Rattle.mr_spill.proofs.TableLemmas.{beside-push}
 use Rattle.mr_spill.proofs.pair_columns.PairColumns.push.Goals as goal
 

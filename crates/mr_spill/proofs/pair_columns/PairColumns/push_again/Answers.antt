@@ -2,9 +2,8 @@ use Rattle.std.proofs.Common.{◌≡◌, ◌-◌, ℕ, List, [], ◌∷◌, ◌+
 use Rattle.mr_bytes.specs.Pairs.{Triple}
 use Rattle.mr_group.specs.Interner.{key_at}
 use Rattle.mr_spill.specs.Column.{no_pair, nth_pair}
-use Rattle.mr_spill.specs.Entries.{Entry}
-use Rattle.mr_spill.specs.Table.{beside}
-use Rattle.mr_spill.proofs.TableLemmas.{beside-at, beside-push, length-beside}
+use Rattle.mr_spill.specs.Entries.{Entry, beside, nth_entry}
+use Rattle.mr_spill.proofs.TableLemmas.{beside-nth, beside-push, length-beside}
 use Rattle.mr_spill.proofs.pair_columns.PairColumns.push_again.Goals as goal
 
 pub returns-in-Ok-clause-ok : goal.returns-in-Ok-clause-ok
@@ -17,7 +16,7 @@ returns-in-Ok-clause-ok c =
     let last : List ℕ = key_at ks (length ks - 1) in
     let many : length ts ≡ length ks = ap length (sym c.self.view_is) ∙ length-beside ks es c.self.invariant.same in
     let key : last ≡ (nth_pair ts (length ts - 1)).key =
-    sym (beside-at ks es (length ks - 1) no_pair (omega (arith, many, c.requires)) c.self.invariant.same)
+    sym (ap (λ (t : Triple). t.key) (beside-nth ks es (length ks - 1) (nth_entry [] 0) no_pair (omega (arith, many, c.requires)) c.self.invariant.same))
     ∙ ap (λ (us : List Triple). (nth_pair us (length ks - 1)).key) c.self.view_is
     ∙ ap (λ (m : ℕ). (nth_pair ts (m - 1)).key) (sym many) in
     ap (λ (l : List (List ℕ)). beside l c.push.new.self) c.in-Ok.ensures.ok

@@ -1,0 +1,7 @@
+use Rattle.std.proofs.Common.{◌≡◌, slice_range}
+use Rattle.std.specs.List.{flat_map}
+use Rattle.mr_spill.specs.Groups.{pairs_of}
+use Rattle.mr_spill.proofs.regions.region_of.Given as goal
+
+abbrev pub invariant-loop-g : goal.invariant-loop-g
+invariant-loop-g l = l.region ≡ flat_map pairs_of (slice_range l.groups l.begin l.g)
