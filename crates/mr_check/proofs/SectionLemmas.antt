@@ -1,16 +1,17 @@
 -- Sections that are walked each by itself.
-use Rattle.std.proofs.Common.{◌≡◌, ℕ, suc, ◌+◌, ◌≤◌, ◌<◌, All, get_or, Option, Some, None, Result, Ok, Err, List, [], ◌∷◌, drop, length, refl, ap, sym, ◌∙◌, subst, arith}
+use Rattle.std.proofs.Common.{◌≡◌, ℕ, zero, suc, ◌+◌, ◌≤◌, ◌<◌, Option, Some, None, MatchResult, Result, Ok, Err, List, [], ◌∷◌, drop, length, refl, ap, sym, ◌∙◌, subst, arith}
 use Rattle.std.specs.Prelude.{IfOk, IfSome}
 use Rattle.std.proofs.lemmas.List.{drop-drop}
 use Rattle.mr_certform.specs.declared.grammar_state.Item.{Item}
 use Rattle.mr_certform.specs.declared.grammar_state.Item.TheVariants.{Entry, End}
 use Rattle.mr_certform.specs.Rows.{entries_ahead, behind_entries}
 use Rattle.mr_certform.specs.Spelling.{left_behind}
-use Rattle.mr_certform.specs.Walking.{items_left}
-use Rattle.mr_verdict.specs.Verdict.{Reached, Subject, start, entries_in}
-use Rattle.mr_verdict.specs.VerdictLaws.{told}
-use Rattle.mr_verdict.specs.Steps.{Known, subject}
-use Rattle.mr_judge.specs.Borders.{at_border, between}
+use Rattle.mr_certform.specs.Walking.{items_left, halt}
+use Rattle.mr_certform.specs.declared.walker.Walker.{Walker}
+use Rattle.mr_verdict.specs.Verdict.{Reached, Subject, start, entries_in, first, part_faults}
+use Rattle.mr_verdict.specs.declared.answers.No.{No}
+use Rattle.mr_verdict.specs.Steps.{Answers, Known, subject}
+use Rattle.mr_judge.specs.Borders.{at_border, behind_entries as behind_named, between}
 use Rattle.mr_judge.specs.declared.border.Border.{Border}
 use Rattle.mr_check.specs.declared.section.Section.{Section}
 use Rattle.mr_check.specs.declared.walk.Came.{Came}
@@ -19,10 +20,12 @@ use Rattle.mr_check.specs.declared.walk.Walk.{Walk}
 use Rattle.mr_verdict.specs.Items.{Coming}
 use Rattle.mr_check.specs.declared.walk.Walked.{Walked}
 use Rattle.mr_check.specs.Claims.{claims_of}
-use Rattle.mr_check.specs.Sections.{AllPass, AreWalked, CameTo, IsSection, IsWalked}
-use Rattle.mr_check.specs.Windows.{AllHold}
-use Rattle.mr_check.specs.Walk.{HoldsFor, Passed, Takes, before_end, ends_once}
-use Rattle.mr_check.proofs.BorderLemmas.{told_between}
+use Rattle.mr_check.specs.Sections.{AllPass, AreJudged, CameTo, IsAt, IsSection, IsWalked, JoinedTo, end_tests}
+use Rattle.mr_check.specs.Walk.{HoldsFor, Passed, Takes, named_more}
+use Rattle.mr_check.specs.Accepted.{stopped}
+use Rattle.mr_judge.specs.Outputs.{IsTold}
+use Rattle.mr_judge.proofs.Faults.{told_is}
+use Rattle.mr_check.proofs.BorderLemmas.{faults_between}
 
 -- ---- the walk that finds them
 
@@ -45,57 +48,63 @@ drop_on n m at is js all e d s = d ∙ (ap (drop n) e ∙ (drop-drop n at all �
 
 -- ---- walks that fit together
 
--- all items pass up to where a section begins: what is told of all is told from its border on
-pub record JoinedTo (s : Subject) (all is : List Item) (b : Border) (sum : ℕ) : Type 0 where
-  pub same : told s start (before_end all) ≡ told s (at_border b) (before_end is)
-  pub named : entries_in all ≡ sum + entries_in is
-  pub ended : ends_once all ≡ ends_once is
-
-pub joined_first : (s : Subject) (all : List Item) (sec : Section) (b : Border) → IsSection all sec → sec.at ≡ 0 → at_border b ≡ start → JoinedTo s all (items_left sec.walker) b 0
+-- where no walk is joined, all items are left
+pub joined_first : (s : Subject) (all : Walker) (sec : Section) (b : Border) → IsAt all sec → sec.at ≡ 0 → at_border b ≡ start → JoinedTo s (items_left all) (items_left sec.walker) b 0
 joined_first s all sec b is at begins =
-    let here : items_left sec.walker ≡ all = is.here ∙ ap (λ n. drop n all) at in
+    let here : items_left sec.walker ≡ items_left all = is.left ∙ ap (λ n. drop n (items_left all)) at in
     record {
-      same = ap (λ (st : Reached). told s st (before_end all)) (sym begins) ∙ ap (λ (w : List Item). told s (at_border b) (before_end w)) (sym here);
+      faults = λ stop. ap (λ (w : List Item). part_faults s stop start w) (sym here) ∙ ap (λ (st : Reached). part_faults s stop (record st { named = 0 }) (items_left sec.walker)) (sym begins);
       named = omega (arith, ap entries_in here);
-      ended = ap ends_once (sym here);
     }
 
 came_as : (s : Subject) (is : List Item) (w : Walked) (came : Came) → w.came ≡ came → CameTo s is w w.came → CameTo s is w came
 came_as s is w came e h = subst (CameTo s is w) e h
 
-passed_as : (s : Subject) (st to new : Reached) (is js left rest : List Item) → st ≡ to → is ≡ js → left ≡ rest → Passed s st new is left → Passed s to new js rest
-passed_as s st to new is js left rest e d f h =
-    subst (λ (w : List Item). Passed s to new js w) f (subst (λ (w : List Item). Passed s to new w left) d (subst (λ (w : Reached). Passed s w new is left) e h))
+none_more : (n : ℕ) → n ≡ n + 0
+none_more n = omega arith
 
-pub joined_next : (k : Known) (all : List Item) (sec next : Section) (w : Walked) (b on : Border) (sum more : ℕ) → IsSection all sec → IsSection all next → next.at ≡ sec.at + w.most → 1 ≤ next.at
-    → w.came ≡ To b → IsWalked k (items_left sec.walker) w → HoldsFor k (claims_of w.claims) → at_border on ≡ at_border b → more ≡ sum + w.named
-    → JoinedTo (subject k) all (items_left sec.walker) w.began sum → JoinedTo (subject k) all (items_left next.walker) on more
-joined_next k all sec next w b on sum more this is at past came walked holds same count joined =
+-- one more is joined
+pub joined_next : (k : Known) (all : Walker) (sec next : Section) (w : Walked) (from b : Border) (n m : ℕ) → IsAt all sec → IsSection all next → next.at ≡ sec.at + w.most → 1 ≤ next.at
+    → w.came ≡ To b → IsWalked k (items_left sec.walker) w → HoldsFor k (claims_of w.claims) → at_border w.began ≡ at_border from → m ≡ n + w.named
+    → JoinedTo (subject k) (items_left all) (items_left sec.walker) from n → JoinedTo (subject k) (items_left all) (items_left next.walker) b m
+joined_next k all sec next w from b n m this is at past came walked holds same count joined =
     let s : Subject = subject k in
     let here : List Item = items_left sec.walker in
     let there : List Item = items_left next.walker in
     let t = came_as s here w (To b) came (walked holds) in
-    let behind : drop w.most here ≡ there = drop_on w.most next.at sec.at here (drop w.most here) all this.here refl at ∙ sym is.here in
-    let border : between t.0 ≡ at_border on = sym (same ∙ t.1.0) in
+    let st : Reached = t.0 in
     let passed = t.1.1.1 in
+    let behind : drop w.most here ≡ there = drop_on w.most next.at sec.at here (drop w.most here) (items_left all) this.left refl at ∙ sym is.here.left in
     record {
-      same = joined.same ∙ (passed.same ∙ (ap (λ (l : List Item). told s t.0 (before_end l)) behind ∙ (told_between s t.0 there (is.begins past) ∙ ap (λ (st : Reached). told s st (before_end there)) border)));
+      faults = λ stop. joined.faults stop
+          ∙ (ap (λ (v : Reached). part_faults s stop (record v { named = n }) here) (sym same)
+          ∙ (ap (λ c. part_faults s stop (behind_named w.began c) here) (none_more n) ∙ passed.faults stop n
+          ∙ (ap (λ (l : List Item). part_faults s stop (named_more n st) l) behind
+          ∙ (faults_between s stop (named_more n st) there (is.begins past)
+          ∙ (ap (λ (v : Reached). part_faults s stop (record v { named = n + st.named }) there) (sym t.1.0)
+          ∙ ap (λ c. part_faults s stop (behind_named b c) there) (ap (λ c. n + c) (sym t.1.1.0) ∙ sym count))))));
       named = omega (arith, joined.named, passed.named, t.1.1.0, count, ap entries_in behind);
-      ended = joined.ended ∙ (passed.ended ∙ ap ends_once behind);
     }
 
-pub joined_end : (k : Known) (all : List Item) (sec : Section) (w : Walked) (sum more : ℕ) → w.came ≡ ToEnd → IsWalked k (items_left sec.walker) w → HoldsFor k (claims_of w.claims) → more ≡ sum + w.named
-    → JoinedTo (subject k) all (items_left sec.walker) w.began sum → AllPass (subject k) all more
-joined_end k all sec w sum more came walked holds count joined =
-    let t = came_as (subject k) (items_left sec.walker) w ToEnd came (walked holds) in
+-- the last one comes to the end
+pub joined_end : (k : Known) (all : Walker) (is : List Item) (w : Walked) (from : Border) (n m : ℕ) → w.came ≡ ToEnd → IsWalked k is w → HoldsFor k (claims_of w.claims) → at_border w.began ≡ at_border from → m ≡ n + w.named
+    → JoinedTo (subject k) (items_left all) is from n → AllPass (subject k) (items_left all) m
+joined_end k all is w from n m came walked holds same count joined =
+    let s : Subject = subject k in
+    let t = came_as s is w ToEnd came (walked holds) in
     let passed = t.1.1 in
     record {
-      none = joined.same ∙ passed.same;
+      faults = λ stop. joined.faults stop
+          ∙ (ap (λ (v : Reached). part_faults s stop (record v { named = n }) is) (sym same)
+          ∙ (ap (λ c. part_faults s stop (behind_named w.began c) is) (none_more n) ∙ passed.faults stop n ∙ ap (end_tests s) (ap (λ c. n + c) (sym t.1.0) ∙ sym count)));
       named = omega (arith, joined.named, passed.named, t.1.0, count);
-      ended = joined.ended ∙ passed.ended;
     }
 
 -- ---- one walk
+
+passed_as : (s : Subject) (st to new : Reached) (is js left rest : List Item) → st ≡ to → is ≡ js → left ≡ rest → Passed s st new is left → Passed s to new js rest
+passed_as s st to new is js left rest e d f h =
+    subst (λ (w : List Item). Passed s to new js w) f (subst (λ (w : List Item). Passed s to new w left) d (subst (λ (w : Reached). Passed s w new is left) e h))
 
 pub walked_from : (old new : Coming) (k : Known) (is js : List Item) (at : ℕ) (st : Reached) (b : Border) (w : Walk) (most : ℕ) (came : Came) → ((l : List Item) (n : ℕ) → old l n → l ≡ is) → new js at → st ≡ at_border b
     → Takes old new k st w most came → IsWalked k is (record { began = b; most = most; came = came; named = w.judging.named; claims = w.claims })
@@ -117,17 +126,22 @@ pub some_more : {A : Type 0} (r : Option A) (P Q : A → Type 0) → ((a : A) �
 some_more (Some a) P Q f p = f a p
 some_more None P Q f p = tt
 
--- what is known of the walk with this number, and of its section
-pub record AtNumber (k : Known) (all : List Item) (sec : Section) (w : Walked) : Type 0 where
-  pub section : IsSection all sec
-  pub walked : IsWalked k (items_left sec.walker) w
-  pub holds : HoldsFor k (claims_of w.claims)
+pub some_at : (n : ℕ) → (n ≡ 0 → ⊥) → 1 ≤ n
+some_at zero h = absurd (h refl)
+some_at (suc n) h = omega arith
 
-pub at_number : (k : Known) (all : List Item) (ss : List Section) (ws : List Walked) (n : ℕ) (s : Section) (w : Walked) → All (IsSection all) ss → AreWalked k ss ws → AllHold k ws
-    → n < length ss → n < length ws → AtNumber k all (get_or ss n s) (get_or ws n w)
-at_number k all ss ws n s w sections walked holds less also = record { section = sections n s less; walked = walked n s w also; holds = holds n w also }
+-- ---- answers
 
--- where there is one, this is one
-pub first_of : {A : Type 0} (xs : List A) → 0 < length xs → A
-first_of [] h = absurd (omega (arith, h))
-first_of (x ∷ xs) h = x
+-- an answer on what is left behind a border is one on all
+pub judged_behind : (k : Known) (all w : Walker) (b : Border) (n : ℕ) (answer : Result ℕ No) → halt w ≡ halt all → JoinedTo (subject k) (items_left all) (items_left w) b n
+    → (let fs = part_faults (subject k) (halt w) (behind_named b n) (items_left w) in MatchResult answer (λ m. (first fs ≡ None) × (m ≡ n + entries_in (items_left w))) (Answers fs)) → AreJudged k all answer
+judged_behind k all w b n (Ok m) stop joined h =
+    (ap first (joined.faults (halt all)) ∙ (ap (λ at. first (part_faults (subject k) at (behind_named b n) (items_left w))) (sym stop) ∙ h.0), h.1 ∙ sym joined.named)
+judged_behind k all w b n (Err e) stop joined h =
+    told_is (part_faults (subject k) (halt w) (behind_named b n) (items_left w)) (part_faults (subject k) (halt all) start (items_left all)) e
+    (ap first (joined.faults (halt all)) ∙ ap (λ at. first (part_faults (subject k) at (behind_named b n) (items_left w))) (sym stop)) h
+
+-- and is told as the plain walk tells it
+pub parts_told : (k : Known) (all : Walker) (answer : Result ℕ No) → AreJudged k all answer → IsTold (part_faults (subject k) (halt all) start (items_left all)) (entries_in (items_left all)) (stopped answer)
+parts_told k all (Ok n) h = h
+parts_told k all (Err e) h = h

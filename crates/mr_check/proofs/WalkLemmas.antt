@@ -1,7 +1,8 @@
 -- A walk that takes entries at their word.
-use Rattle.std.proofs.Common.{◌≡◌, ℕ, ◌+◌, ◌-◌, ◌≤◌, ◌<◌, true, Some, None, Ok, List, [], ◌∷◌, ◌++◌, length, drop, refl, ap, sym, ◌∙◌, subst, arith}
+use Rattle.std.proofs.Common.{◌≡◌, ℕ, zero, suc, ◌+◌, ◌-◌, ◌≤◌, ◌<◌, true, Option, Some, None, IfSome, Ok, List, [], ◌∷◌, ◌++◌, length, drop, refl, ap, sym, ◌∙◌, subst, arith}
 use Rattle.std.proofs.lemmas.List.{drop-drop, get_or-drop}
 use Rattle.std.specs.Prelude.{nat_le}
+use Rattle.std.specs.Option.{option_map}
 use Rattle.std.proofs.lemmas.Bool.{false≢true, le-leb}
 use Rattle.mr_bytes.specs.declared.Name.{Name}
 use Rattle.mr_bytes.specs.declared.Value.{Value}
@@ -12,7 +13,7 @@ use Rattle.mr_bytes.proofs.ListLaws.{Has-all, all_from_Has}
 use Rattle.mr_jobs.specs.JobSpec.{JobSpec, WordCount, LinesWith, Resources, InvertedIndex, counts}
 use Rattle.mr_jobs.specs.Emissions.{value_at}
 use Rattle.mr_certform.specs.declared.grammar_state.Item.{Item}
-use Rattle.mr_certform.specs.declared.grammar_state.Item.TheVariants.{Entry, End}
+use Rattle.mr_certform.specs.declared.grammar_state.Item.TheVariants.{Entries, Entry, End}
 use Rattle.mr_sequential.specs.Good.{named}
 use Rattle.mr_verdict.specs.declared.answers.No.TheVariants.{Unnamed}
 use Rattle.mr_input.specs.Files.{contents, nth_file}
@@ -21,22 +22,23 @@ use Rattle.mr_jobs.specs.JobSpec.{RequestSpec}
 use Rattle.mr_splits.specs.Kept.{Choice}
 use Rattle.mr_judge.specs.declared.border.Border.{Border}
 use Rattle.mr_judge.specs.Borders.{at_border}
-use Rattle.mr_judge.specs.Outputs.{Leaves}
+use Rattle.mr_judge.specs.Outputs.{IsTold as PartsTold, Leaves}
 use Rattle.mr_check.specs.declared.front.Front.{Front}
 use Rattle.mr_check.specs.declared.given.Given.{Given}
 use Rattle.mr_check.specs.Accepted.{known_behind}
-use Rattle.mr_check.specs.Sections.{AllPass, IsSmall}
-use Rattle.mr_verdict.specs.Verdict.{Reached, Subject, start, tests, after, part_faults, first, entries_in}
-use Rattle.mr_verdict.specs.VerdictLaws.{told}
+use Rattle.mr_judge.specs.Borders.{IsSmall}
+use Rattle.mr_check.specs.Sections.{AllPass, end_tests}
+use Rattle.mr_verdict.specs.Verdict.{Reached, Subject, start, tests, after, after_entry, behind_group, part_faults, first, entries_in, with_entry}
 use Rattle.mr_verdict.specs.Steps.{Known, Room, subject}
 use Rattle.mr_verdict.specs.Items.{Coming, CanCome, Took}
 use Rattle.mr_judge.specs.declared.border.FoundItem.{FoundItem}
 use Rattle.mr_judge.specs.Rows.{brought, row_after, item_after}
 use Rattle.mr_judge.proofs.Faults.{fine}
 use Rattle.mr_judge.proofs.PartLemmas.{entry_room, room_after, entries_more, named_after}
+use Rattle.mr_check.proofs.BorderLemmas.{faults_behind}
 use Rattle.mr_check.specs.Joined.{joined}
 use Rattle.mr_check.specs.Claims.{Claim, IsRight}
-use Rattle.mr_check.specs.Walk.{HoldsFor, IsTold, Passed, before_end, ends_once, known}
+use Rattle.mr_check.specs.Walk.{HoldsFor, IsTold, Passed, known, named_more}
 use Rattle.mr_check.specs.declared.walk.Told.{Told}
 
 -- what was put off before is right where all that was put off behind it is
@@ -51,9 +53,6 @@ item_room s st row i more all r = room_after s st i more all r
 
 pub row_room : (s : Subject) (st : Reached) (row : FoundItem) (more all : ℕ) → Room st (more + 1) all → Room (row_after s st row) more all
 row_room s st row more all r = item_room s st row row.item more all r
-
-pub less_room : (st : Reached) (few more all : ℕ) → few ≤ more → Room st more all → Room st few all
-less_room st few more all h r = record { next = omega (arith, r.next, h); group = omega (arith, r.group, h); entry = omega (arith, r.entry, h); named = omega (arith, r.named, h); values = omega (arith, r.values, h) }
 
 -- a pair with this key and value under its name is this triple
 triple_is : (t : Triple) (key : List ℕ) (v : Value) (name : Name) → t.key ≡ key → t.value ≡ v → t.name ≡ name → t ≡ record { key = key; value = v; name = name }
@@ -75,6 +74,35 @@ found_right k claims name told v is holds has value =
     let key : t.key ≡ told.key.now = some_is t.key told.key.now (sym right.1.1 ∙ is) in
     right.1.0 ∙ ap (λ (w : Triple). Some w) (triple_is t told.key.now v name key same.1 same.0)
 
+-- ---- the group's key
+
+behind_key : (s : Subject) (st : Reached) (n : ℕ) (key : List ℕ) → (1 ≤ st.entry → key ≡ st.key) → 1 ≤ (behind_group s st n).entry → key ≡ (behind_group s st n).key
+behind_key s st zero key h some = h some
+behind_key s st (suc n) key h some = h some
+
+with_key : (st : Reached) (t : Triple) (e : ℕ) (key : List ℕ) → e ≡ st.entry → (1 ≤ st.entry → key ≡ st.key) → key ≡ t.key → key ≡ (with_entry st t e).key
+with_key st t zero key is h same = same
+with_key st t (suc e) key is h same = h (omega (arith, is))
+
+entry_key : (s : Subject) (st : Reached) (o : Option Triple) (key : List ℕ) → (1 ≤ st.entry → key ≡ st.key) → IfSome o (λ t. key ≡ t.key) → 1 ≤ (after_entry s st o).entry → key ≡ (after_entry s st o).key
+entry_key s st None key h same some = h some
+entry_key s st (Some t) key h same some = behind_key s (with_entry st t st.entry) (st.entries - 1) key (λ more. with_key st t st.entry key refl h same) some
+
+of_mapped : {A B : Type 0} (f : A → B) (o : Option A) (P : B → Type 0) → IfSome o (λ a. P (f a)) → IfSome (option_map f o) P
+of_mapped f None P h = tt
+of_mapped f (Some a) P h = h
+
+item_key : (s : Subject) (st : Reached) (row : FoundItem) (i : Item) (key : List ℕ) → (1 ≤ st.entry → key ≡ st.key) → IfSome row.found (λ p. key ≡ p.0.now) → 1 ≤ (item_after s st row i).entry → key ≡ (item_after s st row i).key
+item_key s st row (Entry name) key h same some = entry_key s st (brought name row) key h (of_mapped (λ p. record { key = p.0.now; value = p.1; name = name }) row.found (λ (t : Triple). key ≡ t.key) same) some
+item_key s st row (Entries n) key h same some = absurd (omega (arith, some))
+item_key s st row i key h same some = h some
+
+-- the entries of a group that were taken have the key that its line tells
+pub key_after : (s : Subject) (st : Reached) (row : FoundItem) (o : Option Told) → (1 ≤ st.entry → IfSome o (λ t. t.key.now ≡ st.key)) → IfSome row.found (λ p. IfSome o (λ t. t.key.now ≡ p.0.now))
+    → 1 ≤ (row_after s st row).entry → IfSome o (λ t. t.key.now ≡ (row_after s st row).key)
+key_after s st row None h same some = tt
+key_after s st row (Some t) h same some = item_key s st row row.item t.key.now h same some
+
 -- ---- values
 
 -- a job that counts has one value
@@ -95,21 +123,12 @@ took_more old new i other t is at n = t is at n
 pub passed_next : (s : Subject) (old st next : Reached) (is left : List Item) (i : Item) → (i ≡ End → ⊥) → Passed s old st is (i ∷ left)
     → tests s st i ≡ [] → next ≡ after s st i → Passed s old next is left
 passed_next s old st next is left i other h none e = record {
-  same = h.same ∙ (ap (told s st) (before i left other) ∙ (ap (λ w. w ++ told s (after s st i) (before_end left)) none ∙ ap (λ (w : Reached). told s w (before_end left)) (sym e)));
+  faults = λ at n. h.faults at n ∙ faults_behind s at n st next i left other none e;
   named = omega (arith, h.named, entries_more i left, ap (λ (w : Reached). w.named) e, named_after s st i none);
-  ended = h.ended ∙ ended_on i left other;
 }
-  where
-    before : (i : Item) (left : List Item) → (i ≡ End → ⊥) → before_end (i ∷ left) ≡ i ∷ before_end left
-    before End left other = absurd (other refl)
-    before i left other = refl
-
-    ended_on : (i : Item) (left : List Item) → (i ≡ End → ⊥) → ends_once (i ∷ left) ≡ ends_once left
-    ended_on End left other = absurd (other refl)
-    ended_on i left other = refl
 
 pub passed_none : (s : Subject) (st : Reached) (is : List Item) → Passed s st st is is
-passed_none s st is = record { same = refl; named = refl; ended = refl }
+passed_none s st is = record { faults = λ at n. refl; named = refl }
 
 -- a walk took so many items: of those that might come before, those that may come now are left, and what was put off being
 -- right, the others passed
@@ -139,30 +158,19 @@ going_ends old now new k claims first st n going took (left, (at, there)) holds 
 
 -- ---- all items passed
 
-nothing_left : {A : Type 0} (xs ys : List A) → xs ++ ys ≡ [] → (xs ≡ []) × (ys ≡ [])
-nothing_left [] ys h = (refl, h)
-nothing_left (x ∷ xs) ys h = absurd (cc h)
-
--- where nothing is told before the end, and each pair is named, nothing is told at all
-pub faults_none : (s : Subject) (at : ℕ) (st : Reached) (is : List Item) → told s st (before_end is) ≡ [] → ends_once is ≡ true → length s.triples ≤ st.named + entries_in is → part_faults s at st is ≡ []
-faults_none s at st [] none ended few = absurd (false≢true ended)
-faults_none s at st (End ∷ []) none ended few = fine (nat_le (length s.triples) st.named) (Unnamed (length s.triples) st.named) (le-leb (length s.triples) st.named (omega (arith, few)))
-faults_none s at st (End ∷ i ∷ is) none ended few = absurd (false≢true ended)
-faults_none s at st (i ∷ is) none ended few =
-    let parts = nothing_left (tests s st i) (told s (after s st i) (before_end is)) none in
-    ap (λ w. w ++ part_faults s at (after s st i) is) parts.0
-    ∙ faults_none s at (after s st i) is parts.1 ended (omega (arith, few, entries_more i is, named_after s st i parts.0))
-
--- so nothing is told of all items, where there are as many pairs as entries
-pub accepted : (k : Known) (is : List Item) (at n : ℕ) → AllPass (subject k) is n → length k.triples ≡ n → (first (part_faults (subject k) at start is) ≡ None) × (n ≡ entries_in is)
-accepted k is at n h few = (ap first (faults_none (subject k) at start is h.none h.ended (omega (arith, few, h.named))), sym h.named)
-
+-- all items that passed up to the end
 pub passed_all : (s : Subject) (st new : Reached) (is : List Item) → st ≡ start → Passed s st new is (End ∷ []) → AllPass s is new.named
-passed_all s st new is e h = record {
-  none = ap (λ (w : Reached). told s w (before_end is)) (sym e) ∙ h.same;
-  named = omega (arith, h.named, ap (λ (w : Reached). w.named) e);
-  ended = h.ended;
-}
+passed_all s st new is e h =
+    let none : 0 + new.named ≡ new.named = omega arith in
+    record {
+      faults = λ at. ap (λ (w : Reached). part_faults s at (named_more 0 w) is) (sym e) ∙ (h.faults at 0 ∙ ap (end_tests s) none);
+      named = omega (arith, h.named, ap (λ (w : Reached). w.named) e);
+    }
+
+-- nothing is told of them, where there are as many pairs as entries
+pub accepted : (k : Known) (is : List Item) (at n : ℕ) → AllPass (subject k) is n → length k.triples ≡ n → PartsTold (part_faults (subject k) at start is) (entries_in is) (Ok n)
+accepted k is at n h few =
+    (ap first (h.faults at ∙ fine (nat_le (length k.triples) n) (Unnamed (length k.triples) n) (le-leb (length k.triples) n (omega (arith, few)))), sym h.named)
 
 -- ---- what is given behind a front
 

@@ -1,11 +1,10 @@
 -- Of no public promise: a walk over a certificate's items that takes each entry at its word.
-use Rattle.std.specs.Prelude.{◌≡◌, ℕ, ◌+◌, Bool, true, false, List, [], ◌∷◌, Some, None, IfSome, drop}
+use Rattle.std.specs.Prelude.{◌≡◌, ℕ, ◌+◌, ◌≤◌, List, [], ◌∷◌, Some, IfSome, drop}
 use Rattle.mr_bytes.specs.Lists.{Has}
 use Rattle.mr_input.specs.Files.{contents}
 use Rattle.mr_certform.specs.declared.grammar_state.Item.{Item}
 use Rattle.mr_certform.specs.declared.grammar_state.Item.TheVariants.{End}
-use Rattle.mr_verdict.specs.Verdict.{Reached, Subject, part_faults, start, first, entries_in, tests, after}
-use Rattle.mr_verdict.specs.VerdictLaws.{told}
+use Rattle.mr_verdict.specs.Verdict.{Reached, Subject, part_faults, entries_in, tests, after}
 use Rattle.mr_verdict.specs.Steps.{Known, subject, Room}
 use Rattle.mr_verdict.specs.Items.{Coming}
 use Rattle.mr_index.specs.Index.{triples_of}
@@ -36,11 +35,12 @@ IsTold k t = told_key (drop t.line (joined k.outputs)) ≡ Some t.key.now
 abbrev pub HoldsFor : Known → List Claim → Type 0
 HoldsFor k claims = AreRight k.triples (joined k.outputs) claims
 
--- the walk stands in these outputs, and its group's line tells the key
+-- the walk stands in these outputs; its group's line tells the key, which the group's entries so far have
 pub record Stands (k : Known) (w : Walk) : Type 0 where
   pub left : Leaves w.judging k.outputs w.outputs.rest.now (contents w.outputs.later.now)
   pub place : w.outputs.passed ≡ w.judging.from
   pub told : IfSome w.told (IsTold k)
+  pub key : 1 ≤ w.judging.entry → IfSome w.told (λ t. t.key.now ≡ w.judging.key)
 
 -- an item was taken: what was put off is kept, there is room for more, and if all that was put off is right, its tests are
 -- passed, and so much is remembered behind it
@@ -49,24 +49,15 @@ pub record TakesItem (k : Known) (old new : Walk) (i : Item) : Type 0 where
   pub room : (more all : ℕ) → Room old.judging (more + 1) all → Room new.judging more all
   pub passed : HoldsFor k (claims_of new.claims) → (tests (subject k) old.judging i ≡ []) × (new.judging ≡ after (subject k) old.judging i)
 
--- the items before the end
-abbrev pub before_end : List Item → List Item
-before_end [] = []
-before_end (End ∷ is) = []
-before_end (i ∷ is) = i ∷ before_end is
+-- so many entries more were named before
+abbrev pub named_more : ℕ → Reached → Reached
+named_more n st = record st { named = n + st.named }
 
--- the end comes last, and only there
-abbrev pub ends_once : List Item → Bool
-ends_once [] = false
-ends_once (End ∷ []) = true
-ends_once (End ∷ i ∷ is) = false
-ends_once (i ∷ is) = ends_once is
-
--- the items that are no longer left were tested, and passed: what is told of all before the end is told of the others
+-- the items that are no longer left were tested, and passed: all faults from here on are those of the others, however many
+-- entries were named before
 pub record Passed (s : Subject) (old new : Reached) (is left : List Item) : Type 0 where
-  pub same : told s old (before_end is) ≡ told s new (before_end left)
+  pub faults : (at n : ℕ) → part_faults s at (named_more n old) is ≡ part_faults s at (named_more n new) left
   pub named : old.named + entries_in is ≡ new.named + entries_in left
-  pub ended : ends_once is ≡ ends_once left
 
 -- of items that might come a walk took so many, or all up to the end: if what it put off is right, they passed
 abbrev pub Takes : Coming → Coming → Known → Reached → Walk → ℕ → Came → Type 0
@@ -78,8 +69,3 @@ Takes old new k st w n (To b) =
 Takes old new k st w n ToEnd =
     HoldsFor k (claims_of w.claims) → (is : List Item) × ((at : ℕ) × (old is at × Passed (subject k) st w.judging is (End ∷ [])))
 Takes old new k st w n Nowhere = Unit {0}
-
--- of items that may come these entries are all, and none of the tests fails
-abbrev pub IsAccepted : Coming → Known → ℕ → Type 0
-IsAccepted gives k n =
-    (is : List Item) × ((at : ℕ) × (gives is at × ((first (part_faults (subject k) at start is) ≡ None) × (n ≡ entries_in is))))

@@ -1,15 +1,15 @@
 -- Of no public promise: claims that are tested window by window.
-use Rattle.std.specs.Prelude.{◌≡◌, ℕ, ◌<◌, List, All, length}
+use Rattle.std.specs.Prelude.{◌≡◌, ℕ, ◌<◌, List, All, length, slice_index_or}
 use Rattle.mr_bytes.specs.Pairs.{Triple}
 use Rattle.mr_index.specs.declared.window.Window.{Window}
 use Rattle.mr_index.specs.Windows.{PieceView, Tiles, IsWindow, piece_of, window_triples}
 use Rattle.mr_check.specs.declared.claims.Late.{Late}
 use Rattle.mr_check.specs.declared.given.Given.{Given}
 use Rattle.mr_check.specs.declared.walk.Walked.{Walked}
-use Rattle.mr_check.specs.Claims.{IsRight, IsRightWindow, claim_of, claims_of, nth_window}
+use Rattle.mr_check.specs.declared.windows.Tested.{Tested}
+use Rattle.mr_check.specs.Claims.{IsRight, IsRightWindow, claim_of, nth_window}
 use Rattle.mr_check.specs.Joined.{joined}
-use Rattle.mr_check.specs.Walk.{HoldsFor, known}
-use Rattle.mr_verdict.specs.Steps.{Known}
+use Rattle.mr_check.specs.Walk.{known}
 
 -- the pairs of a window's records
 abbrev pub pairs_in : Given → Window → List Triple
@@ -34,11 +34,7 @@ pub record AreByWindows (g : Given) (walked : List Walked) : Type 0 where
   pub tiles : Tiles g.kept.now.cut 0 0 g.windows.now.list
   pub by : All (IsByWindows g) walked
 
--- a window has so many pairs, and what was claimed of them is right
-pub record IsTested (g : Given) (walked : List Walked) (w n : ℕ) : Type 0 where
-  pub pairs : n ≡ length (pairs_in g (nth_window g.windows.now.list w))
-  pub right : All (λ x. IsRightWindow (known g).triples (joined (known g).outputs) x.claims w) walked
-
--- all that was claimed is right
-abbrev pub AllHold : Known → List Walked → Type 0
-AllHold k walked = All (λ x. HoldsFor k (claims_of x.claims)) walked
+-- a window has so many pairs, and what so many of the walks claimed of them is right
+pub record IsTested (g : Given) (walked : List Walked) (w : ℕ) (t : Tested) : Type 0 where
+  pub pairs : t.pairs ≡ length (pairs_in g (nth_window g.windows.now.list w))
+  pub right : (i : ℕ) (d : Walked) → i < t.right → i < length walked → IsRightWindow (known g).triples (joined (known g).outputs) (slice_index_or walked i d).claims w

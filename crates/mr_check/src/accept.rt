@@ -12,9 +12,8 @@ ghost use Rattle.mr_certform.specs.declared.grammar_state.GrammarState.TheVarian
 ghost use Rattle.mr_verdict.specs.Items.{CanCome};
 ghost use Rattle.mr_judge.specs.Kinds.{InKind};
 ghost use Rattle.mr_judge.specs.Outputs.{AllJudged};
-ghost use Rattle.mr_check.specs.Accepted.{known_behind};
+ghost use Rattle.mr_check.specs.Accepted.{PartsJudged};
 ghost use Rattle.mr_check.specs.Claims.{claims_of};
-ghost use Rattle.mr_check.specs.Walk.{IsAccepted};
 
 use crate::claims::Claims;
 use crate::front::Front;
@@ -61,7 +60,7 @@ fn accept_parts<I: ItemSource>(
 ) -> Option<u64>
     requires sound { I.sound items.old }
     requires few { I.most items.old < 2 ^ 63 }
-    ensures { IfSome result (IsAccepted (I.gives items.old) (known_behind front.now)) }
+    ensures { IfSome result (λ n. PartsJudged (I.gives items.old) front.now (Ok n)) }
 {
     let ground = Ground::of(alloc, &front.plan, &front.skips, front.outputs)?;
     let given = ground.given(front.request);

@@ -11,7 +11,7 @@ ghost use Rattle.std.specs.Prelude.{slice_set, IfOk, IfSome, IsTrue, OnOk};
 ghost use Rattle.mr_index.specs.Windows.{Tiles};
 ghost use Rattle.mr_check.specs.Claims.{PutsOff, claims_of, name_of, nth_list, nth_window};
 
-use mr_bytes::Name;
+use mr_bytes::{Name, RecordName};
 use mr_index::{Window, windows};
 use mr_splits::Plan;
 use std::alloc::{AllocError, Global};
@@ -87,6 +87,8 @@ pub(crate) struct Windows {
     first: Vec<u32>,
     /// Record r of a split is in window `r >> shift` from the split's first one.
     shift: u32,
+    /// How many bytes of text the records of each window have.
+    sizes: Vec<u64>,
 }
 
 impl Model for Windows {
@@ -98,6 +100,23 @@ impl Model for Windows {
     ghost view = { λ w. record { bits = 32 - w.shift; list = w.list.items } };
 
     ghost invariant = { λ w. w.shift ≤ 32 };
+}
+
+/// How many bytes of text a window's records have.
+fn size_of(plan: &Plan<'_>, window: Window) -> u64 {
+    // As in `Given::value_of`.
+    let _size = plan.size();
+    let Window { split, from, end } = window;
+    let last = end.saturating_sub(1);
+    if !plan.has_record(RecordName { split, rec: from })
+        || !plan.has_record(RecordName { split, rec: last })
+    {
+        return 0;
+    }
+    let (first, last) = (plan.locate(split, from), plan.locate(split, last));
+    u64::from(last.start)
+        .saturating_add(last.bytes.len() as u64)
+        .saturating_sub(u64::from(first.start))
 }
 
 impl Windows {
@@ -114,7 +133,16 @@ impl Windows {
             before = before.saturating_add(plan.records_in(split).div_ceil(most));
         }
         let list = windows(alloc, plan, most)?;
-        Ok(Windows { list, first, shift })
+        let mut sizes = Vec::with_capacity(alloc, list.len())?;
+        for window in list.as_slice() {
+            sizes.push(size_of(plan, *window))?;
+        }
+        Ok(Windows {
+            list,
+            first,
+            shift,
+            sizes,
+        })
     }
 
     pub fn count(&self) -> usize
@@ -231,9 +259,16 @@ fn push_empty(alloc: Global, lists: &mut Vec<LateList>, room: usize) -> Result<(
     Ok(())
 }
 
+/// Room for the entries of a window of `size` bytes, if there are `expected` over `all` bytes: its
+/// share, and a sixteenth more. A list that is too short is moved, to twice its size.
+fn room_for(expected: usize, size: u64, all: u64) -> usize {
+    let share = (expected as u64).saturating_mul(size) / all.max(1);
+    share.saturating_add(share / 16) as usize
+}
+
 impl<'a> Claims<'a> {
     /// Nothing claimed yet, and keys of at most `most` bytes to come. Each window has room for its
-    /// share of `expected`, and an eighth more.
+    /// share of `expected`.
     pub fn new(
         alloc: Global,
         windows: &'a Windows,
@@ -244,11 +279,10 @@ impl<'a> Claims<'a> {
         ensures none { IfOk result (λ c. claims_of c ≡ []) }
     {
         let count = windows.count();
-        let share = expected / count.max(1);
-        let room = share.saturating_add(share / 8);
         let mut lists = Vec::with_capacity(alloc, count)?;
-        for _ in 0..count {
-            push_empty(alloc, &mut lists, room)?;
+        for w in 0..count {
+            let size = windows.sizes.get(w).map_or(0, |size| *size);
+            push_empty(alloc, &mut lists, room_for(expected, size, most))?;
         }
         Ok(Claims {
             windows,

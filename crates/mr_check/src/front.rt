@@ -1,13 +1,13 @@
 //! Reads what comes before the partitions in a certificate.
-ghost use Rattle.std.specs.Prelude.{◌≡◌, ◌≤◌, ◌<◌, ◌^◌, ℕ, List, Ok, IfSome};
+ghost use Rattle.std.specs.Prelude.{◌≡◌, ◌≤◌, ◌<◌, ◌^◌, ℕ, List, Result, IfSome};
 ghost use Rattle.mr_input.specs.Files.{contents};
 ghost use Rattle.mr_certform.specs.declared.grammar_state.Item.{Item as Read};
 ghost use Rattle.mr_certform.specs.declared.grammar_state.GrammarState.TheVariants.{AtMagic};
+ghost use Rattle.mr_verdict.specs.declared.answers.No.{No as Fault};
 ghost use Rattle.mr_verdict.specs.Items.{CanCome};
 ghost use Rattle.mr_judge.specs.Kinds.{InKind};
 ghost use Rattle.mr_judge.specs.Outputs.{AllJudged};
-ghost use Rattle.mr_check.specs.Accepted.{known_behind};
-ghost use Rattle.mr_check.specs.Walk.{IsAccepted};
+ghost use Rattle.mr_check.specs.Accepted.{PartsJudged, answer_behind};
 
 use mr_bytes::RecordName;
 use mr_jobs::Request;
@@ -26,7 +26,8 @@ pub(crate) struct Front<'a> {
 }
 
 impl<'a> Front<'a> {
-    /// Reads header and left-out records. If the partitions behind them are accepted, all is.
+    /// Reads header and left-out records, if they have no fault. An answer on the partitions behind
+    /// them is then one on all.
     pub fn read<I: ItemSource>(
         alloc: Global,
         computation: &Computation<'a>,
@@ -39,10 +40,10 @@ impl<'a> Front<'a> {
         requires front { (is : List Read) (at : ℕ) → I.gives items.old is at → InKind AtMagic is }
         ensures sound { IfSome result (λ _. I.sound items.new) }
         ensures few { IfSome result (λ _. I.most items.new < 2 ^ 63) }
-        ensures yes { IfSome result (λ f. (n : ℕ)
-            → IsAccepted (I.gives items.new) (known_behind f) n
-            → AllJudged (I.gives items.old) computation.now.request.now
-            computation.now.input.now 0 0 (Ok (record { skips = f.skips; pairs = n })) (contents outputs.entry.now)) }
+        ensures judged { IfSome result (λ f. (answer : Result ℕ Fault)
+            → PartsJudged (I.gives items.new) f answer
+            → AllJudged (I.gives items.old) computation.now.request.now computation.now.input.now
+            0 0 (answer_behind f.skips answer) (contents outputs.entry.now)) }
     {
         let request = computation.request;
         let Ok(()) = expect_header(items, request, computation.input) else {

@@ -7,7 +7,7 @@
 //! for each value, else each group does, and a line is a key, a tab, and more without a tab. Where
 //! a guess is wrong, the walk before comes to another border, and the result is not accepted.
 ghost use Rattle.std.specs.Prelude.{◌≡◌, ◌≤◌, ◌+◌, All, IfOk, IfSome, IsTrue, length};
-ghost use Rattle.mr_check.specs.Sections.{IsSmall};
+ghost use Rattle.mr_judge.specs.Borders.{IsSmall};
 
 use crate::section::Section;
 use memchr::memrchr;
@@ -15,8 +15,8 @@ use mr_judge::Border;
 use std::alloc::{AllocError, Global};
 use std::simd::prelude::*;
 
-/// The most partitions of a request, and groups of a partition.
-const MOST: u64 = 1 << 32;
+/// More partitions than a request has, and more groups and entries than a certificate.
+pub(crate) const MOST: u64 = 1 << 32;
 
 /// A walk over the lines of an output: how many bytes and lines it has passed.
 #[derive(Drop)]

@@ -8,6 +8,7 @@ mod front;
 mod given;
 mod guesses;
 mod joined;
+mod joining;
 mod lines;
 mod options;
 mod section;

@@ -7,7 +7,7 @@
 //! many items. One walk over all items finds them; it passes the entries of a group at a time.
 //! Beside a section stands what the items before it tell of the border at which it begins.
 ghost use Rattle.std.specs.Prelude.{◌≡◌, ◌≤◌, ◌<◌, ◌^◌, ◌∷◌, List, All, IfOk, IfSome, drop, length};
-ghost use Rattle.mr_certform.specs.declared.grammar_state.Item.{Item as Read};
+ghost use Rattle.mr_certform.specs.declared.walker.Walker.{Walker as Walks};
 ghost use Rattle.mr_certform.specs.Walking.{items_left};
 ghost use Rattle.mr_check.specs.Sections.{IsAt, IsSection};
 
@@ -38,7 +38,7 @@ impl<'a> Section<'a> {
 
     /// Passes the entries that come next.
     fn pass_entries(&mut self) -> Option<()>
-        ensures passed { IfSome result (λ _. (all : List Read)
+        ensures passed { IfSome result (λ _. (all : Walks)
             → IsAt all self.old → IsAt all self.new) }
         ensures fewer { length (items_left self.new.walker) ≤ length (items_left self.old.walker) }
     {
@@ -71,7 +71,7 @@ impl<'a> Section<'a> {
 
     /// Passes an item. `None` at the end, and where no valid item comes next.
     fn pass_item(&mut self) -> Option<Item>
-        ensures passed { IfSome result (λ _. (all : List Read)
+        ensures passed { IfSome result (λ _. (all : Walks)
             → IsAt all self.old → IsAt all self.new) }
         ensures item { IfSome result (λ i. items_left self.old.walker
             ≡ i ∷ items_left self.new.walker) }
@@ -90,9 +90,9 @@ impl<'a> Section<'a> {
 
     /// Passes the next group's first item, and all before it. Returns where the group begins.
     fn pass_to_group(&mut self) -> Option<Section<'a>>
-        ensures section { IfSome result (λ s. (all : List Read)
+        ensures section { IfSome result (λ s. (all : Walks)
             → IsAt all self.old → IsSection all s) }
-        ensures passed { IfSome result (λ _. (all : List Read)
+        ensures passed { IfSome result (λ _. (all : Walks)
             → IsAt all self.old → IsAt all self.new) }
         ensures fewer { IfSome result (λ _. length (items_left self.new.walker)
             < length (items_left self.old.walker)) }
@@ -123,7 +123,7 @@ pub(crate) fn sections_of<'a>(
     share: u64,
 ) -> Result<Vec<Section<'a>>, AllocError>
     requires { length (items_left walker.now) < 2 ^ 63 }
-    ensures { IfOk result (λ v. All (IsSection (items_left walker.now)) v.items) }
+    ensures { IfOk result (λ v. All (IsSection walker.now) v.items) }
 {
     let mut here = Section::first(walker);
     let mut sections = Vec::new(alloc);

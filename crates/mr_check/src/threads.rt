@@ -5,7 +5,9 @@
 //!     input         | window | window | window | ...    each tested by the thread that draws it
 //!
 //! Sections and windows are drawn. A walk begins at a border that was guessed. Where the one before
-//! comes to another, nothing is accepted: then the calling thread judges plainly.
+//! comes to another, where a walk fails or a claim is wrong, the calling thread judges on plainly from
+//! the last border up to which all is right (`joining.rt`): so a no takes a yes, an index of all
+//! pairs, and a plain walk over one section.
 ghost use Rattle.std.specs.Prelude.{◌≡◌, ◌⊎◌, ◌<◌, ◌≤◌, ◌+◌, ◌^◌, ℕ, List, All, IfOk, IfErr};
 ghost use Rattle.std.specs.Prelude.{IfSome, IsTrue, Option, Ok, Err, length, slice_index_or};
 ghost use Rattle.mr_input.specs.Files.{contents, split_total};
@@ -14,28 +16,31 @@ ghost use Rattle.mr_certform.specs.Walking.{items_left, halt};
 ghost use Rattle.mr_verdict.specs.declared.answers.No.TheVariants.{OutOfMemory};
 ghost use Rattle.mr_verdict.specs.Verdict.{verdict_of};
 ghost use Rattle.mr_verdict.specs.Steps.{Known, subject};
-ghost use Rattle.mr_verdict.specs.Cases.{IsWorth, verdict_on};
+ghost use Rattle.mr_verdict.specs.Cases.{IsVerdictOn, IsWorth, verdict_on};
 ghost use Rattle.mr_verdict.specs.Headline.{IsCertified, accepted_of};
-ghost use Rattle.mr_check.specs.Sections.{AllPass, AreWalked, BeginsFirst, GoesOn, IsSection};
-ghost use Rattle.mr_check.specs.Sections.{IsSmall, IsWalked};
-ghost use Rattle.mr_check.specs.Accepted.{known_behind};
-ghost use Rattle.mr_check.specs.Walk.{IsAccepted, known};
-ghost use Rattle.mr_check.specs.Windows.{AllHold, AreByWindows, IsByWindows, IsTested};
+ghost use Rattle.mr_judge.specs.Borders.{IsSmall};
+ghost use Rattle.mr_certform.specs.declared.walker.Walker.{Walker as Walks};
+ghost use Rattle.mr_check.specs.Sections.{AreJudged, AreWalked, IsRightTo, IsSection, IsWalked};
+ghost use Rattle.mr_check.specs.Accepted.{PartsJudged};
+ghost use Rattle.mr_check.specs.Walk.{known};
+ghost use Rattle.mr_check.specs.Windows.{AreByWindows, IsByWindows, IsTested};
+ghost use Rattle.mr_check.specs.declared.windows.Tested.{Tested as Found};
 
 use crate::accept::claims_for;
 use crate::front::Front;
 use crate::given::{Given, Ground, total_bytes};
 use crate::guesses::guesses_of;
+use crate::joining::{Joined, join};
 use crate::options::{Crew, JudgeOptions};
 use crate::section::Section;
 use crate::sections::sections_of;
 use crate::walk::{Came, Walk, Walked};
-use crate::windows::{add, sum_pairs, test_window};
+use crate::windows::{Tested, sum_windows, test_window};
 use mr_bytes::{Gate, OpenGate, Phase, Progress, Unwatched};
 use mr_certform::Walker;
 use mr_input::Input;
 use mr_jobs::Request;
-use mr_judge::{Border, judge_plainly, walk};
+use mr_judge::{Border, Remainder, judge_plainly, judge_remainder, walk};
 use mr_tickets::{WorkPieces, draw_all};
 use mr_verdict::{Case, Computation, No, Yes};
 use std::alloc::{AllocError, Global};
@@ -90,7 +95,8 @@ impl<'a, 'g, 's, 'i, 'b, 'w, W: Progress> WorkPieces for Walking<'a, 'g, 's, 'i,
     ghost use Rattle.std.specs.Prelude.{◌≡◌, ◌<◌, All, length, slice_index_or};
     ghost use Rattle.mr_certform.specs.Walking.{items_left};
     ghost use Rattle.mr_check.specs.declared.section.Section.{Section as Begins};
-    ghost use Rattle.mr_check.specs.Sections.{IsSmall, IsWalked};
+    ghost use Rattle.mr_judge.specs.Borders.{IsSmall};
+    ghost use Rattle.mr_check.specs.Sections.{IsWalked};
     ghost use Rattle.mr_check.specs.Walk.{known};
     ghost use Rattle.mr_check.specs.Windows.{IsByWindows};
 
@@ -115,65 +121,6 @@ impl<'a, 'g, 's, 'i, 'b, 'w, W: Progress> WorkPieces for Walking<'a, 'g, 's, 'i,
     }
 }
 
-/// Whether the next section begins where the walk over this one ended, and the walk over it at the
-/// border to which this one came.
-fn goes_on(
-    sections: &[Section<'_>],
-    walked: &[Walked<'_>],
-    number: usize,
-    came: &Border<'_>,
-) -> bool
-    requires { (number < length sections.now) × (number < length walked.now) }
-    ensures { IsTrue result → GoesOn sections.now walked.now number came.now }
-{
-    let (Some(next), Some(after)) = (sections.get(number + 1), walked.get(number + 1)) else {
-        return false;
-    };
-    let section = &sections[number];
-    section.at < next.at && next.at - section.at == walked[number].most && after.began.is_same(came)
-}
-
-/// Whether the first walk began before the first partition, and with the first item.
-fn begins_first(sections: &[Section<'_>], walked: &[Walked<'_>]) -> bool
-    ensures { IsTrue result → BeginsFirst sections.now walked.now }
-{
-    let (Some(section), Some(walk)) = (sections.first(), walked.first()) else {
-        return false;
-    };
-    section.at == 0 && walk.began.is_same(&Border::before(0))
-}
-
-/// How many entries there are, if the walks over all sections fit together: the first one begins
-/// before the first partition, and each comes to where the next began, up to the end.
-fn join(sections: &[Section<'_>], walked: &[Walked<'_>]) -> Option<u64>
-    requires { length walked.now ≡ length sections.now }
-    ensures { (k : Known) (all : List Read)
-        → All (IsSection all) sections.now → AreWalked k sections.now walked.now
-        → IfSome result (λ n. AllHold k walked.now → AllPass (subject k) all n) }
-{
-    if !begins_first(sections, walked) {
-        return None;
-    }
-    let mut sum = 0u64;
-    for number in 0..walked.len() {
-        let walk = &walked[number];
-        let Some(more) = add(sum, walk.named) else {
-            return None;
-        };
-        sum = more;
-        match walk.came {
-            Came::Nowhere => return None,
-            Came::ToEnd => return Some(sum),
-            Came::To(border) => {
-                if !goes_on(sections, walked, number, &border) {
-                    return None;
-                }
-            }
-        }
-    }
-    None
-}
-
 /// The windows of the input, each to be tested for what was put off.
 #[derive(Drop)]
 struct Testing<'a, 'g, 'b, 's, 'w, W: Progress> {
@@ -186,14 +133,14 @@ impl<'a, 'g, 'b, 's, 'w, W: Progress> WorkPieces for Testing<'a, 'g, 'b, 's, 'w,
     ghost use Rattle.std.specs.Prelude.{◌<◌, IfSome, length};
     ghost use Rattle.mr_check.specs.Windows.{AreByWindows, IsTested};
 
-    type Out = Option<u64>;
+    type Out = Option<Tested>;
 
     ghost has = { λ t w. (w < length t.given.now.windows.now.list)
         × AreByWindows t.given.now t.walked.now };
 
     ghost gives = { λ t w out. IfSome out (IsTested t.given.now t.walked.now w) };
 
-    fn do_piece(&self, alloc: Global, number: u32) -> Result<Option<u64>, AllocError> {
+    fn do_piece(&self, alloc: Global, number: u32) -> Result<Option<Tested>, AllocError> {
         let all = self.given.windows.count() as u64;
         self.watch.report(Phase::Mapping, u64::from(number), all);
         Ok(test_window(alloc, self.given, self.walked, number as usize))
@@ -236,16 +183,16 @@ impl<'c, R: Threads + Sync, G: Gate, W: Progress> Crew<'c, R, G, W> {
         draw_all(self.rt, self.alloc, &walking, &drawing)
     }
 
-    /// Tests all windows. Returns how many pairs each has, if what was put off is right there.
+    /// Tests all windows.
     fn test_windows(
         &self,
         given: &Given<'_>,
         walked: &[Walked<'_>],
-    ) -> Result<Vec<Option<u64>>, AllocError>
+    ) -> Result<Vec<Option<Tested>>, AllocError>
         requires few { length given.now.windows.now.list < 2 ^ 32 }
         requires by { AreByWindows given.now walked.now }
         ensures all { IfOk result (λ v. length v.items ≡ length given.now.windows.now.list) }
-        ensures tested { IfOk result (λ v. (w : ℕ) (d : Option ℕ) → w < length v.items
+        ensures tested { IfOk result (λ v. (w : ℕ) (d : Option Found) → w < length v.items
             → IfSome (slice_index_or v.items w d) (IsTested given.now walked.now w)) }
     {
         let testing = Testing {
@@ -257,12 +204,12 @@ impl<'c, R: Threads + Sync, G: Gate, W: Progress> Crew<'c, R, G, W> {
         draw_all(self.rt, self.alloc, &testing, &drawing)
     }
 
-    /// How many pairs there are, if the partitions are accepted.
-    fn accept_parts(&self, front: &Front<'_>, walker: &Walker<'_>) -> Option<u64>
+    /// The answer on the partitions: how many pairs there are if they are accepted, else the first
+    /// fault behind the border up to which all is right. `None` if that is not known.
+    fn judge_parts(&self, front: &Front<'_>, walker: &Walker<'_>) -> Option<Result<u64, No>>
         requires { length (items_left walker.now) < 2 ^ 63 }
-        ensures { IfSome result (IsAccepted
-            (λ is at. (is ≡ items_left walker.now) × (at ≡ halt walker.now))
-            (known_behind front.now)) }
+        ensures { IfSome result (PartsJudged
+            (λ is at. (is ≡ items_left walker.now) × (at ≡ halt walker.now)) front.now) }
     {
         let ground = Ground::of(self.alloc, &front.plan, &front.skips, front.outputs)?;
         let given = ground.given(front.request);
@@ -273,24 +220,77 @@ impl<'c, R: Threads + Sync, G: Gate, W: Progress> Crew<'c, R, G, W> {
         if pieces > u32::MAX as usize {
             return None;
         }
-        let Ok(walked) = self.walk_sections(&given, &sections) else {
-            return None;
+        // What walks put off is let go before there is an index of all pairs.
+        let joined = {
+            let Ok(walked) = self.walk_sections(&given, &sections) else {
+                return None;
+            };
+            self.join_tested(&given, &sections, &walked)?
         };
-        let named = join(&sections, &walked)?;
-        let Ok(tested) = self.test_windows(&given, &walked) else {
-            return None;
-        };
-        let emitted = sum_pairs(&given, &walked, &tested)?;
-        if emitted != named {
-            return None;
-        }
-        Some(named)
+        Some(self.answer(&given, &joined))
     }
 
-    /// The yes to a case, if it is accepted.
-    fn accept(&self, case: &Case<'_>) -> Option<Yes>
-        ensures headline { IfSome result (IsWorth case.now) }
-        ensures yes { IfSome result (λ y. verdict_on case.now ≡ Ok (accepted_of y)) }
+    /// Tests what walks over all sections put off, and joins them as far as it is right. Only if that
+    /// is all, and there are as many pairs, `all` is how many.
+    fn join_tested<'a, 'i>(
+        &self,
+        given: &Given<'a>,
+        sections: &[Section<'i>],
+        walked: &[Walked<'a>],
+    ) -> Option<Joined<'a, 'i>>
+        requires few { length given.now.windows.now.list < 2 ^ 32 }
+        requires by { AreByWindows given.now walked.now }
+        requires same { length walked.now ≡ length sections.now }
+        ensures small { IfSome result (λ j. IsSmall j.border × (j.named ≤ 2 ^ 32)) }
+        ensures right { (all : Walks) → All (IsSection all) sections.now
+            → AreWalked (known given.now) sections.now walked.now
+            → IfSome result (IsRightTo (known given.now) all) }
+    {
+        let hoped = join(sections, walked, walked.len())?;
+        if hoped.walks == 0 && hoped.all.is_none() {
+            return None;
+        }
+        let Ok(tested) = self.test_windows(given, walked) else {
+            return None;
+        };
+        let found = sum_windows(given, walked, &tested)?;
+        let joined = join(sections, walked, found.right)?;
+        if let Some(named) = joined.all {
+            if joined.walks < found.right && named == found.pairs {
+                return Some(joined);
+            }
+        }
+        Some(Joined {
+            all: None,
+            ..joined
+        })
+    }
+
+    /// How many pairs there are, if all is right; else what the plain walk finds from the border on up
+    /// to which it is.
+    fn answer(&self, given: &Given<'_>, joined: &Joined<'_, '_>) -> Result<u64, No>
+        requires small { IsSmall joined.now.border × (joined.now.named ≤ 2 ^ 32) }
+        ensures { (all : Walks) → IsRightTo (known given.now) all joined.now
+            → AreJudged (known given.now) all result }
+    {
+        if let Some(pairs) = joined.all {
+            return Ok(pairs);
+        }
+        let rest = Remainder {
+            request: given.request,
+            kept: given.kept,
+            outputs: given.outputs.outputs(),
+            walker: joined.section.walker,
+            border: joined.border,
+            named: joined.named,
+        };
+        judge_remainder(self.alloc, &rest, &Unwatched)
+    }
+
+    /// The answer on a case. `None` if the walks don't tell it.
+    fn judge_case(&self, case: &Case<'_>) -> Option<Result<Yes, No>>
+        ensures headline { IfSome result (λ r. IfOk r (IsWorth case.now)) }
+        ensures verdict { IfSome result (IsVerdictOn case.now) }
     {
         // A request's splits have at least one byte.
         let _size = case.request.split_size();
@@ -303,17 +303,21 @@ impl<'c, R: Threads + Sync, G: Gate, W: Progress> Crew<'c, R, G, W> {
         };
         let mut items = walk(case.certificate);
         let front = Front::read(self.alloc, &computation, case.outputs, &mut items)?;
-        let pairs = self.accept_parts(&front, &items)?;
-        Some(Yes {
-            skips: front.skips,
-            pairs,
-        })
+        let answer = self.judge_parts(&front, &items)?;
+        match answer {
+            Ok(pairs) => Some(Ok(Yes {
+                skips: front.skips,
+                pairs,
+            })),
+            Err(fault) => Some(Err(fault)),
+        }
     }
 }
 
 /// Judges a case by threads, as `check` does by one. The threads draw the sections of the
 /// certificate and walk them; then they draw the windows of the input, map each, and test what the
-/// walks put off. Where that gives no yes, the calling thread judges plainly.
+/// walks put off. Where that gives no yes, the calling thread judges plainly, from the section on
+/// before which all is right.
 ///
 /// Each thread calls the gate before and after each piece of work that it draws, with the number of
 /// its seat, from 0, and the piece's, from 0: first those of the windows, split by split, then the
@@ -329,8 +333,8 @@ pub fn judge<R: Threads + Sync, G: Gate, W: Progress>(
     ensures no { IfErr result (λ e. (e ≡ OutOfMemory) ⊎ (verdict_on case.now ≡ Err e)) }
 {
     let crew = Crew { rt, alloc, options };
-    match crew.accept(case) {
-        Some(yes) => Ok(yes),
+    match crew.judge_case(case) {
+        Some(answer) => answer,
         None => judge_plainly(alloc, case, &Unwatched),
     }
 }

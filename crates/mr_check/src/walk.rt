@@ -8,21 +8,23 @@
 //!
 //! The steps are those of the judge (`JudgeState`), made with the pair that the entry claims: its
 //! key is the one that the output's line tells, and its value is known from the record. So no byte
-//! of the input is read here, and no pair is looked up. What is put off goes to the list of its
+//! of the input is read here, and no pair is looked up. All entries of a group have its key, so of
+//! one that is neither first nor last only the name is tested. What is put off goes to the list of its
 //! window (`Claims`), to be tested when that window is mapped.
-ghost use Rattle.std.specs.Prelude.{◌≡◌, ◌<◌, ◌^◌, [], IfSome, IsTrue};
+ghost use Rattle.std.specs.Prelude.{◌≡◌, ◌<◌, ◌-◌, ◌^◌, [], IfSome, IsTrue, Some};
 ghost use Rattle.mr_certform.specs.declared.grammar_state.Item.TheVariants.{End};
 ghost use Rattle.mr_verdict.specs.Steps.{HasRoom};
+ghost use Rattle.mr_verdict.specs.Verdict.{after_entry, entry_tests};
 ghost use Rattle.mr_judge.specs.Borders.{at_border};
 ghost use Rattle.mr_judge.specs.Rows.{row_subject, row_tests, row_after};
 ghost use Rattle.mr_check.specs.Claims.{claims_of};
-ghost use Rattle.mr_check.specs.Sections.{IsSmall};
+ghost use Rattle.mr_judge.specs.Borders.{IsSmall};
 ghost use Rattle.mr_check.specs.Walk.{IsTold, Stands, TakesItem, Takes, known};
 
 use crate::claims::Claims;
 use crate::given::Given;
 use crate::lines::told_key;
-use mr_bytes::{Name, Phase, Progress, Throttle};
+use mr_bytes::{Name, Phase, Progress, Throttle, Value};
 use mr_certform::Item;
 use mr_judge::{Border, FoundItem, JudgeState, MemoryOutputs};
 use mr_verdict::ItemSource;
@@ -103,6 +105,7 @@ impl<'a> Walk<'a> {
     fn step(&mut self, given: &Given<'a>, row: &FoundItem<'a>) -> bool
         requires room { HasRoom self.old.judging }
         requires stands { Stands (known given.now) self.old }
+        requires key { IfSome row.now.found (λ p. IfSome self.old.told (λ t. t.key.now ≡ p.0.now)) }
         ensures tested { let s = row_subject given.now.request.now given.now.outputs.now in
             IsTrue result → (row_tests s self.old.judging row.now ≡ [])
             × (self.new.judging ≡ row_after s self.old.judging row.now) }
@@ -113,6 +116,29 @@ impl<'a> Walk<'a> {
             Ok(()) => true,
             Err(_) => false,
         }
+    }
+
+    /// Makes the judge's tests of an entry, by the pair that it claims. Returns whether all passed.
+    #[inline(always)]
+    fn step_entry(&mut self, given: &Given<'a>, name: Name, told: Told<'a>, value: Value) -> bool
+        requires room { HasRoom self.old.judging }
+        requires stands { Stands (known given.now) self.old }
+        requires told { self.old.told ≡ Some told }
+        ensures tested { let s = row_subject given.now.request.now given.now.outputs.now in
+            let t = Some (record { key = told.entry.key.now; value = value; name = name }) in
+            IsTrue result → (entry_tests s (self.old.judging.next - 1) self.old.judging name t ≡ [])
+            × (self.new.judging ≡ after_entry s self.old.judging t) }
+        ensures stands { IsTrue result → Stands (known given.now) self.new }
+        ensures claims { self.new.claims ≡ self.old.claims }
+    {
+        if self.judging.is_within_group() {
+            return matches!(self.judging.take_within_group(name, value), Ok(true));
+        }
+        let row = FoundItem {
+            item: Item::Entry(name),
+            found: Some((told.key, value)),
+        };
+        self.step(given, &row)
     }
 
     /// Takes an entry at its word. Returns whether all tests passed that can be made now.
@@ -134,11 +160,7 @@ impl<'a> Walk<'a> {
         let Ok(true) = self.claims.take(name, told.line, told.key.len()) else {
             return false;
         };
-        let row = FoundItem {
-            item: Item::Entry(name),
-            found: Some((told.key, value)),
-        };
-        self.step(given, &row)
+        self.step_entry(given, name, told, value)
     }
 
     /// Takes an item that is not the end. Returns whether all tests passed that can be made now.
@@ -154,10 +176,13 @@ impl<'a> Walk<'a> {
         if let Item::Entry(name) = item {
             return self.take_entry(given, name);
         }
+        if !self.step(given, &FoundItem { item, found: None }) {
+            return false;
+        }
         if let Item::Entries(_) = item {
             self.told = self.next_group(given);
         }
-        self.step(given, &FoundItem { item, found: None })
+        true
     }
 
     /// The place of the open group's line in all outputs.

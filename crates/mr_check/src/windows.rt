@@ -9,9 +9,10 @@ ghost use Rattle.std.specs.Prelude.{◌≡◌, ℕ, Option, ◌+◌, ◌≤◌, 
 ghost use Rattle.std.specs.Prelude.{slice_index_or};
 ghost use Rattle.mr_index.specs.Windows.{Tiles};
 ghost use Rattle.mr_check.specs.Claims.{claims_of};
+ghost use Rattle.mr_check.specs.Sections.{HoldTo};
 ghost use Rattle.mr_check.specs.Walk.{HoldsFor, known};
-ghost use Rattle.mr_check.specs.Windows.{IsMapped, IsRightIn, AllHold, AreByWindows, IsByWindows};
-ghost use Rattle.mr_check.specs.Windows.{IsTested};
+ghost use Rattle.mr_check.specs.Windows.{IsMapped, IsRightIn, AreByWindows, IsByWindows, IsTested};
+ghost use Rattle.mr_check.specs.declared.windows.Tested.{Tested as Found};
 
 use crate::claims::Late;
 use crate::given::Given;
@@ -51,13 +52,21 @@ fn are_right(given: &Given<'_>, piece: &Piece, bits: u32, list: &[Late]) -> bool
     true
 }
 
-/// Tests the claims of window `w`. Returns how many pairs its records emit, if all are right.
+/// A window that was tested: how many pairs its records emit, and of how many of the walks, from the
+/// first on, each claim is right there.
+#[derive(Clone, Copy)]
+pub(crate) struct Tested {
+    pub pairs: u64,
+    pub right: usize,
+}
+
+/// Tests the claims of window `w`, walk by walk up to one with a wrong claim.
 pub(crate) fn test_window(
     alloc: Global,
     given: &Given<'_>,
     walked: &[Walked<'_>],
     w: usize,
-) -> Option<u64>
+) -> Option<Tested>
     requires within { w < length given.now.windows.now.list }
     requires by { AreByWindows given.now walked.now }
     ensures { IfSome result (IsTested given.now walked.now w) }
@@ -69,12 +78,17 @@ pub(crate) fn test_window(
         return None;
     };
     let bits = given.windows.bits();
-    for walk in walked {
-        if !are_right(given, &piece, bits, walk.claims.of_window(w)) {
-            return None;
+    let mut right = 0;
+    while right < walked.len() {
+        if !are_right(given, &piece, bits, walked[right].claims.of_window(w)) {
+            break;
         }
+        right += 1;
     }
-    Some(piece.len() as u64)
+    Some(Tested {
+        pairs: piece.len() as u64,
+        right,
+    })
 }
 
 #[inline(always)]
@@ -84,36 +98,39 @@ pub(crate) fn add(sum: u64, more: u64) -> Option<u64>
     sum.checked_add(more)
 }
 
-/// How many pairs the input has, if all its windows were tested, and each has as many as stand
-/// here.
-pub(crate) fn sum_pairs(
+/// How many pairs the input has, and of how many of the walks, from the first on, each claim is
+/// right, if all windows were tested.
+pub(crate) fn sum_windows(
     given: &Given<'_>,
     walked: &[Walked<'_>],
-    tested: &[Option<u64>],
-) -> Option<u64>
+    tested: &[Option<Tested>],
+) -> Option<Tested>
     requires by { AreByWindows given.now walked.now }
     requires all { length tested.now ≡ length given.now.windows.now.list }
-    requires tested { (w : ℕ) (d : Option ℕ) → w < length tested.now
+    requires tested { (w : ℕ) (d : Option Found) → w < length tested.now
         → IfSome (slice_index_or tested.now w d) (IsTested given.now walked.now w) }
-    ensures pairs { IfSome result (λ n. length (known given.now).triples ≡ n) }
-    ensures right { IfSome result (λ _. AllHold (known given.now) walked.now) }
+    ensures pairs { IfSome result (λ t. length (known given.now).triples ≡ t.pairs) }
+    ensures right { IfSome result (λ t. HoldTo (known given.now) t.right walked.now) }
+    ensures few { IfSome result (λ t. t.right ≤ length walked.now) }
 {
     // As in `test_window`.
     let _size = given.kept.plan().size();
     let mut sum = 0u64;
+    let mut right = walked.len();
     for w in 0..tested.len() {
-        let Some(pairs) = tested[w] else {
+        let Some(window) = tested[w] else {
             return None;
         };
-        let Some(more) = add(sum, pairs) else {
+        let Some(more) = add(sum, window.pairs) else {
             return None;
         };
         sum = more;
+        right = right.min(window.right);
     }
-    Some(sum)
+    Some(Tested { pairs: sum, right })
 }
 
-/// Tests what one walk put off (`test_all`).
+/// Tests what one walk put off. Returns how many pairs the input has, if all claims are right.
 pub(crate) fn test_one(
     alloc: Global,
     given: &Given<'_>,
@@ -127,20 +144,6 @@ pub(crate) fn test_one(
         (λ _. HoldsFor (known given.now) (claims_of walked.entry.claims)) }
 {
     let all = [walked];
-    test_all(alloc, given, &all, progress)
-}
-
-/// Tests all claims. Returns how many pairs the input has, if all are right.
-pub(crate) fn test_all(
-    alloc: Global,
-    given: &Given<'_>,
-    walked: &[Walked<'_>],
-    progress: &dyn Progress,
-) -> Option<u64>
-    requires by { AreByWindows given.now walked.now }
-    ensures pairs { IfSome result (λ n. length (known given.now).triples ≡ n) }
-    ensures right { IfSome result (λ _. AllHold (known given.now) walked.now) }
-{
     let count = given.windows.count();
     let mut pace = Throttle::new(Phase::Mapping, count as u64);
     let Ok(mut tested) = Vec::with_capacity(alloc, count) else {
@@ -148,10 +151,17 @@ pub(crate) fn test_all(
     };
     for w in 0..count {
         pace.reach(w as u64, progress);
-        let pairs = test_window(alloc, given, walked, w)?;
-        let Ok(()) = tested.push(Some(pairs)) else {
+        let window = test_window(alloc, given, &all, w)?;
+        if window.right == 0 {
+            return None;
+        }
+        let Ok(()) = tested.push(Some(window)) else {
             return None;
         };
     }
-    sum_pairs(given, walked, &tested)
+    let found = sum_windows(given, &all, &tested)?;
+    if found.right == 0 {
+        return None;
+    }
+    Some(found.pairs)
 }

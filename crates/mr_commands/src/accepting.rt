@@ -4,9 +4,8 @@
 //!     certificate    in pieces    }  ->  yes, or nothing
 //!
 //! There is no answer if a file can't be read, the parts are too long, memory is wanting, or the
-//! fast judge doesn't accept the result. Then the caller opens all files again and judges them
-//! while it reads them (`judging.rt`). A pipe, a socket or a device gives its bytes only once. So
-//! none of these is opened here, and a result with one gets no answer.
+//! fast judge doesn't accept the result. Then the caller opens all files again. A pipe, a socket or a
+//! device gives its bytes only once: a result with one isn't for the fast judge (`can_reread`).
 //! Cost: each file is read once; the parts' bytes are held.
 ghost use Rattle.std.specs.Prelude.{◌≡◌, ◌≤◌, IfSome, Ok, length};
 ghost use Rattle.mr_input.specs.Files.{contents};
@@ -17,22 +16,30 @@ ghost use Rattle.mr_commands.specs.Judgements.{AnswersResult};
 use crate::check_job::CheckJob;
 use mr_bytes::Progress;
 use mr_check::{Computation, Yes, accept_read};
-use mr_files::{Store, certificate_name, part_name, read_file_within};
+use mr_files::{Store, certificate_name, names_of_result, part_name, read_file_within};
 use mr_store::CountedRead;
 use std::alloc::Global;
 
 /// The fast judge accepts only parts of less than 4 GiB in all.
 const MOST_BYTES: u64 = 4_294_967_295;
 
-/// Whether the file can be read again. A pipe, a socket or a device can't, and has no identity.
-fn can_reread<S: Store>(store: &S, alloc: Global, name: &str) -> bool {
-    match store.identity(alloc, name) {
-        Ok(identity) => identity.is_some(),
-        Err(_) => false,
+/// Whether each file of the result can be read again. A pipe, a socket or a device can't, and has no
+/// identity.
+pub(crate) fn can_reread<S: Store>(job: &CheckJob<'_>, store: &S, alloc: Global) -> bool {
+    let options = &job.asked.options;
+    let Ok(names) = names_of_result(alloc, options.out, options.parts as usize) else {
+        return false;
+    };
+    for name in names.as_slice() {
+        match store.identity(alloc, name.as_str()) {
+            Ok(Some(_)) => {}
+            _ => return false,
+        }
     }
+    true
 }
 
-/// The bytes of a part that can be read again, if there are at most `most`.
+/// The bytes of a part, if there are at most `most`.
 fn read_part<S: Store>(
     store: &S,
     alloc: Global,
@@ -44,9 +51,6 @@ fn read_part<S: Store>(
     ensures within { IfSome result (λ v. length v.items ≤ most) }
 {
     let name = part_name(alloc, dir, part).ok()?;
-    if !can_reread(store, alloc, name.as_str()) {
-        return None;
-    }
     read_file_within(store, alloc, name.as_str(), most).ok()
 }
 
@@ -86,9 +90,6 @@ pub(crate) fn accept_files<S: Store>(
     let Ok(name) = certificate_name(alloc, options.out) else {
         return None;
     };
-    if !can_reread(store, alloc, name.as_str()) {
-        return None;
-    }
     let most = most.min(MOST_BYTES);
     let outputs = read_parts(store, alloc, options.out, options.parts as usize, most)?;
     let Ok(mut certificate) = store.reader(alloc, name.as_str()) else {

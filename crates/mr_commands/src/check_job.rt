@@ -1,26 +1,22 @@
 //! Judges a result against an input.
 //!
-//!     several threads, or a verdict to write    reads the result whole and judges what it read;
-//!                                               a file longer than a good result's: as below
-//!     one thread and no verdict                 asks the fast judge (`accepting.rt`)
-//!     if that says nothing                      judges while it reads (`judging.rt`)
+//!     one thread and no verdict to write    asks the fast judge (`accepting.rt`): yes, or nothing
+//!     several, or one, or if nothing        reads the result whole and judges what it read
+//!     a file longer than a good result's    judges while it reads (`judging.rt`)
 //!
-//! The fast judge says yes or nothing, and its yes is the answer. It holds the parts. The judge
-//! that reads opens all files again and holds none. It gives every other answer, and reports a file
-//! that can't be read.
+//! The fast judge holds the parts, and reads the certificate in pieces. A judge of what was read whole
+//! finds a no in little more than the time of a yes. The judge that reads opens all files again and
+//! holds none. It judges a result with a pipe on one thread, and where memory was wanting before. It
+//! reports a file that can't be read.
 ghost use Rattle.std.specs.Prelude.{◌≤◌, ◌^◌};
-ghost use Rattle.std.specs.Prelude.{◌≡◌, ◌⊎◌, Err, IfErr, IfOk, Ok};
 ghost use Rattle.mr_input.specs.Files.{split_total};
-ghost use Rattle.mr_verdict.specs.Cases.{IsWorth, verdict_on};
-ghost use Rattle.mr_verdict.specs.Headline.{accepted_of};
-ghost use Rattle.mr_verdict.specs.declared.answers.No.{No};
 
-use crate::accepting::accept_files;
+use crate::accepting::{accept_files, can_reread};
 use crate::judging::{input_notes, judge_as_read};
 use crate::texts::{CommandOutput, say};
 use mr_args::{CheckOptions, Fault};
 use mr_bytes::{OpenGate, Progress};
-use mr_check::{Case, JudgeOptions, No, Yes, judge, judge_on_one_thread};
+use mr_check::{Case, JudgeOptions, No, Yes, judge};
 use mr_files::{LimitFault, Store, read_result_within};
 use mr_input::Input;
 use mr_jobs::Request;
@@ -67,32 +63,13 @@ fn most_bytes(input: &Input) -> u64 {
     bytes.saturating_mul(9).saturating_add(65_536)
 }
 
-/// The verdict on a case, by one thread or by several.
-fn judge_by<R: Threads + Sync>(
-    rt: &R,
-    alloc: Global,
-    case: &Case<'_>,
-    threads: u32,
-    watch: &dyn Progress,
-) -> Result<Yes, No>
-    requires few { (1 ≤ threads) × (threads ≤ 64) }
-    ensures headline { IfOk result (IsWorth case.now) }
-    ensures yes { IfOk result (λ y. verdict_on case.now ≡ Ok (accepted_of y)) }
-    ensures no { IfErr result (λ e. (e ≡ No.OutOfMemory) ⊎ (verdict_on case.now ≡ Err e)) }
-{
-    if threads == 1 {
-        return judge_on_one_thread(alloc, case, watch);
-    }
-    let options = JudgeOptions::of(threads, &OpenGate, &watch);
-    judge(rt, alloc, case, &options)
-}
-
 impl<'a> CheckJob<'a> {
-    ghost use Rattle.std.specs.Prelude.{◌≡◌, ℕ, IfErr, IfOk, IfSome, IsTrue, List, None};
+    ghost use Rattle.std.specs.Prelude.{◌≡◌, ℕ, IfErr, IfOk, IfSome, IsTrue, List, None, Ok};
     ghost use Rattle.std.specs.Prelude.{option_map};
     ghost use Rattle.mr_input.specs.Files.{contents};
     ghost use Rattle.mr_files.specs.Refusals.{IsOneLonger};
-    ghost use Rattle.mr_commands.specs.Judgements.{IsAnswer, IsHeld, IsJudgement, IsUnreadResult};
+    ghost use Rattle.mr_commands.specs.Judgements.{AnswersResult, IsAnswer, IsHeld, IsJudgement};
+    ghost use Rattle.mr_commands.specs.Judgements.{IsUnreadResult};
     ghost use Rattle.mr_commands.specs.Judgements.{JudgesResult, files_judged, text_kept};
 
     /// Reads the result, if no file has more than `most` bytes.
@@ -130,19 +107,14 @@ impl<'a> CheckJob<'a> {
         let (request, input) = (self.request, self.input);
         let outputs = held.outputs.as_slice();
         let certificate = held.certificate.as_slice();
-        let threads = self.asked.threads;
-        judge_by(
-            rt,
-            alloc,
-            &Case {
-                request,
-                input,
-                outputs,
-                certificate,
-            },
-            threads,
-            watch,
-        )
+        let case = Case {
+            request,
+            input,
+            outputs,
+            certificate,
+        };
+        let options = JudgeOptions::of(self.asked.threads, &OpenGate, &watch);
+        judge(rt, alloc, &case, &options)
     }
 
     /// The text of a yes's verdict, if it has a name.
@@ -203,10 +175,45 @@ impl<'a> CheckJob<'a> {
         }
     }
 
-    /// Judges the result. If several threads judge or a verdict is kept, it reads the result whole
-    /// first. Otherwise it asks the fast judge for a yes. If that says nothing, or a file is longer
-    /// than a good result's, it judges while it reads. If that gives a yes whose verdict is kept,
-    /// it reads the result whole after all.
+    /// Judges the result, read whole, if no file is longer than a good result's.
+    fn judge_whole<S: Store, R: Threads + Sync>(
+        &self,
+        rt: &R,
+        store: &S,
+        alloc: Global,
+        watch: &dyn Progress,
+    ) -> Result<Option<Judgement>, Fault>
+        ensures judged { IfOk result (λ j. IfSome j (JudgesResult (S.holds store.now) self.now)) }
+        ensures refused { IfErr result (IsUnreadResult (S.unreadable store.now) self.now) }
+    {
+        match self.read(store, alloc, most_bytes(self.input))? {
+            Some(held) => Ok(Some(self.judge(rt, alloc, &held, watch)?)),
+            None => Ok(None),
+        }
+    }
+
+    /// The answer on the result: the fast judge's yes, or what is found while the result is read.
+    fn answer<S: Store>(
+        &self,
+        store: &S,
+        alloc: Global,
+        accepted: Option<Yes>,
+        watch: &dyn Progress,
+    ) -> Result<Result<Yes, No>, Fault>
+        requires { IfSome accepted (λ y. AnswersResult (S.holds store.now) self.now (Ok y)) }
+        ensures answer { IfOk result (AnswersResult (S.holds store.now) self.now) }
+        ensures refused { IfErr result (IsUnreadResult (S.unreadable store.now) self.now) }
+    {
+        match accepted {
+            Some(yes) => Ok(Ok(yes)),
+            None => judge_as_read::<S, Brand>(self, store, alloc, watch),
+        }
+    }
+
+    /// Judges the result. If several threads judge or a verdict is kept, it reads the result whole.
+    /// Otherwise it asks the fast judge for a yes, and reads it whole if that says nothing. Where it
+    /// isn't judged so, it judges while it reads. If that gives a yes whose verdict is kept, it reads
+    /// the result whole after all.
     pub(crate) fn judge_result<S: Store, R: Threads + Sync>(
         &self,
         rt: &R,
@@ -217,18 +224,21 @@ impl<'a> CheckJob<'a> {
         ensures judged { IfOk result (JudgesResult (S.holds store.now) self.now) }
         ensures refused { IfErr result (IsUnreadResult (S.unreadable store.now) self.now) }
     {
-        let accepted = if self.asked.threads > 1 || self.asked.verdict.is_some() {
-            if let Some(held) = self.read(store, alloc, most_bytes(self.input))? {
-                return self.judge(rt, alloc, &held, watch);
-            }
-            None
-        } else {
+        let whole = self.asked.threads > 1 || self.asked.verdict.is_some();
+        let again = !whole && can_reread(self, store, alloc);
+        let accepted = if again {
             accept_files(self, store, alloc, most_bytes(self.input), watch)
+        } else {
+            None
         };
-        let answer = match accepted {
-            Some(yes) => Ok(yes),
-            None => judge_as_read::<S, Brand>(self, store, alloc, watch)?,
-        };
+        if whole || (again && accepted.is_none()) {
+            match self.judge_whole(rt, store, alloc, watch) {
+                Ok(Some(judgement)) => return Ok(judgement),
+                Err(fault) if whole => return Err(fault),
+                _ => {}
+            }
+        }
+        let answer = self.answer(store, alloc, accepted, watch)?;
         if self.keeps_nothing(&answer) {
             let said = say(alloc, &answer)?;
             return Ok(Judgement {

@@ -1,6 +1,5 @@
 -- Windows beside all records: what one gives is of all that is emitted, and windows that tile give all.
-use Rattle.std.proofs.Common.{◌⊎◌, Bool, true, false, cond, ◌≡◌, ℕ, zero, suc, ◌+◌, ◌-◌, ◌<◌, ◌≤◌, Option, Some, None, List, [], ◌∷◌, ◌++◌, length, get_or, drop, take, slice_range, map, eqb, refl, sym, ◌∙◌, ap, subst, arith, inl, inr, length-append}
-use Rattle.std.proofs.lemmas.Bool.{false≢true}
+use Rattle.std.proofs.Common.{◌≡◌, ℕ, zero, suc, ◌+◌, ◌-◌, ◌<◌, ◌≤◌, Some, List, [], ◌∷◌, ◌++◌, length, get_or, drop, take, slice_range, map, eqb, refl, sym, ◌∙◌, ap, subst, arith, inl, inr, length-append}
 use Rattle.std.proofs.lemmas.List.{take-append-drop}
 use Rattle.std.specs.List.{flat_map, zip}
 use Rattle.mr_bytes.specs.declared.By.TheVariants.{Key as WholeKey}
@@ -12,26 +11,25 @@ use Rattle.mr_bytes.specs.Pairs.{Triple}
 use Rattle.mr_bytes.proofs.ListLaws.{Distinct-rises, Has-append_left, Has-append_right, Has-filter_from, Has-flat_map, Has-flat_map_from}
 use Rattle.mr_input.specs.Files.{split_total}
 use Rattle.mr_jobs.specs.JobSpec.{JobSpec}
-use Rattle.mr_jobs.specs.Emissions.{Emission, emissions}
-use Rattle.mr_splits.specs.Named.{NamedRecord, is_left_out, of_split}
-use Rattle.mr_splits.specs.Cut.{Cut, nth_named, records_of}
+use Rattle.mr_jobs.specs.Emissions.{Emission}
+use Rattle.mr_splits.specs.Named.{NamedRecord, of_split}
+use Rattle.mr_splits.specs.Cut.{Cut, records_of}
 use Rattle.mr_splits.specs.Laws.{joined_splits}
 use Rattle.mr_splits.proofs.JoinedLemmas.{joined-zero, splits-join}
 use Rattle.mr_splits.proofs.ReadLemmas.{around, joined-last}
 use Rattle.mr_sequential.specs.Emitted.{placed_from, record_triples}
-use Rattle.mr_sequential.specs.Good.{has_name, named}
+use Rattle.mr_sequential.specs.Good.{named}
 use Rattle.mr_sequential.specs.Names.{value_under}
 use Rattle.mr_sequential.proofs.EntryLaws.{names_total}
 use Rattle.mr_sequential.proofs.NameLaws.{names_rise}
 use Rattle.mr_sequential.proofs.NamedLaws.{named-Has, named-of}
 use Rattle.mr_sequential.proofs.SourceLemmas.{pair_of}
-use Rattle.mr_sequential.proofs.ValueLemmas.{each-found, emitted-valued}
+use Rattle.mr_sequential.proofs.ValueLemmas.{emitted-valued}
 use Rattle.mr_index.specs.Index.{triples_of}
 use Rattle.mr_index.specs.Windows.{window_records, window_triples, number_of, IsWindow, Follow, Tiles}
 use Rattle.mr_index.specs.declared.window.Window.{Window}
 use Rattle.mr_index.proofs.PairLemmas.{range-more, range-behind}
-use Rattle.mr_index.proofs.NumberedLemmas.{test-true}
-use Rattle.mr_index.proofs.GrowLemmas.{slice-none, slice-more, slice-join, slice-all, gives-join}
+use Rattle.mr_index.proofs.GrowLemmas.{slice-none, slice-all, gives-join}
 
 -- ---- windows one behind another
 
@@ -159,70 +157,9 @@ value_told job cut skips n t some is =
 
 -- ---- a window has each triple of its records
 
-has-at : (rs : List NamedRecord) (from end i : ℕ) → from ≤ i → i < end → i < length rs → Has (slice_range rs from end) (nth_named rs i)
-has-at rs from end i past before h =
-    let r : NamedRecord = nth_named rs i in
-    subst (λ (l : List NamedRecord). Has l r) (sym (slice-join rs from (i + 1) end (omega (arith, past)) (omega (arith, before))))
-    (Has-append_left (slice_range rs from (i + 1)) (slice_range rs (i + 1) end) r
-    (subst (λ (l : List NamedRecord). Has l r) (sym (slice-more rs from i past h))
-    (Has-append_right (slice_range rs from i) (r ∷ []) r (inl refl))))
-
 placed-of : (name : RecordName) (place : ℕ) (es : List Emission) (t : Triple) → Has (placed_from name place es) t
     → (t.name.split ≡ name.split) × (t.name.rec ≡ name.rec)
 unfolding placed_from
 placed-of name place [] t h = absurd h
 placed-of name place (e ∷ es) t (inl is) = (ap (λ (u : Triple). u.name.split) (sym is), ap (λ (u : Triple). u.name.rec) (sym is))
 placed-of name place (e ∷ es) t (inr later) = placed-of name (place + 1) es t later
-
-record-of : (job : JobSpec) (skips : List RecordName) (r : NamedRecord) (t : Triple) → Has (record_triples job skips r) t
-    → (t.name.split ≡ r.name.split) × (t.name.rec ≡ r.name.rec)
-record-of job skips r t h = by (is_left_out skips r.name) h
-  where
-    by : (b : Bool) → Has (cond b [] (placed_from r.name 0 (emissions job r.file r.start r.bytes))) t → (t.name.split ≡ r.name.split) × (t.name.rec ≡ r.name.rec)
-    by true g = absurd g
-    by false g = placed-of r.name 0 (emissions job r.file r.start r.bytes) t g
-
--- a triple whose record the window has
-has-own : (job : JobSpec) (cut : Cut) (skips : List RecordName) (split from end : ℕ) (t : Triple) → 0 < cut.size → t.name.split ≡ split → from ≤ t.name.rec
-    → t.name.rec < end → Has (triples_of job cut skips) t → Has (window_triples job cut skips split from end) t
-has-own job cut skips split from end t some is past before h =
-    let rs : List NamedRecord = records_of cut in
-    let given = Has-flat_map_from (record_triples job skips) rs t h in
-    let r : NamedRecord = given.0 in
-    let name = record-of job skips r t given.2 in
-    let found = each-found cut.size cut.files r some given.1 in
-    let own : r.name.split ≡ split = sym name.0 ∙ is in
-    let number : r.name.rec < length (of_split split rs) = subst (λ (s : ℕ). r.name.rec < length (of_split s rs)) own found.number in
-    let at : nth_named (of_split split rs) r.name.rec ≡ r = subst (λ (s : ℕ). nth_named (of_split s rs) r.name.rec ≡ r) own found.found in
-    Has-flat_map (record_triples job skips) (window_records cut split from end) r t
-    (subst (Has (window_records cut split from end)) at
-    (has-at (of_split split rs) from end r.name.rec (omega (arith, past, name.1)) (omega (arith, before, name.1)) number)) given.2
-
-no-some : (t : Triple) → ◌≡◌ {A = Option Triple} None (Some t) → ⊥
-no-some t h = cc
-
--- none has the name, where it finds none
-none-named : (ts : List Triple) (n : Name) (t : Triple) → named ts n ≡ None → Has ts t → t.name ≡ n → ⊥
-none-named [] n t none h is = h
-none-named (u ∷ ts) n t none h is = by (has_name n u) refl none h (λ f g. none-named ts n t f g is)
-  where
-    by : (b : Bool) → has_name n u ≡ b → cond b (Some u) (named ts n) ≡ None → (u ≡ t) ⊎ Has ts t → (named ts n ≡ None → Has ts t → ⊥) → ⊥
-    by true own found g rest = no-some u (sym found)
-    by false other found (inl same) rest =
-        false≢true (sym other ∙ test-true n u (ap (λ (w : Triple). w.name) same ∙ is))
-    by false other found (inr later) rest = rest found later
-
--- so a name of its records finds there what it finds among all
-pub window_finds : (job : JobSpec) (cut : Cut) (skips : List RecordName) (split from end : ℕ) (n : Name) → 0 < cut.size → n.split ≡ split → from ≤ n.rec → n.rec < end
-    → named (window_triples job cut skips split from end) n ≡ named (triples_of job cut skips) n
-window_finds job cut skips split from end n some is past before = by (named (triples_of job cut skips) n) refl (named (window_triples job cut skips split from end) n) refl
-  where
-    by : (o : Option Triple) → named (triples_of job cut skips) n ≡ o → (w : Option Triple) → named (window_triples job cut skips split from end) n ≡ w
-        → named (window_triples job cut skips split from end) n ≡ named (triples_of job cut skips) n
-    by o all (Some t) here = here ∙ sym (window_named job cut skips split from end n t some here)
-    by None all None here = here ∙ sym all
-    by (Some t) all None here =
-        let found = named-Has (triples_of job cut skips) n t all in
-        let own = has-own job cut skips split from end t some (ap (λ (m : Name). m.split) found.1 ∙ is) (omega (arith, past, ap (λ (m : Name). m.rec) found.1))
-        (omega (arith, before, ap (λ (m : Name). m.rec) found.1)) found.0 in
-        absurd (none-named (window_triples job cut skips split from end) n t here own found.1)

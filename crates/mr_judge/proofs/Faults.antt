@@ -7,7 +7,12 @@ use Rattle.std.proofs.lemmas.Bool.{false≢true}
 use Rattle.mr_verdict.specs.declared.answers.No.{No}
 use Rattle.mr_bytes.specs.declared.Name.{Name}
 use Rattle.mr_bytes.specs.Pairs.{Triple}
-use Rattle.mr_verdict.specs.Verdict.{Reached, passes, first_tests, later_tests, order_tests, with_entry, first}
+use Rattle.std.specs.Ordering.{is_lt}
+use Rattle.std.specs.Str.{bytes_eq}
+use Rattle.mr_bytes.specs.Order.{name_order}
+use Rattle.mr_sequential.proofs.KeyLaws.{bytes_eq-same}
+use Rattle.mr_verdict.specs.declared.answers.No.TheVariants.{EntryOrder, KeyDiffers}
+use Rattle.mr_verdict.specs.Verdict.{Reached, Subject, passes, after_entry, behind_group, entry_tests, first_tests, group_tests, later_tests, order_tests, with_entry, first}
 use Rattle.mr_verdict.specs.Steps.{Answers}
 
 pub starts_not : (xs ys : List ℕ) → pointwise nat_eq xs (take (length xs) ys) ≡ false → common_prefix_len nat_eq xs ys ≡ length xs → ⊥
@@ -62,3 +67,26 @@ order_suc part p st n key (suc e) h = refl
 pub with_suc : (st : Reached) (t : Triple) (e : ℕ) → 1 ≤ e → with_entry st t e ≡ record st { entry = e + 1; entries = st.entries - 1; before = t.name; values = st.values ++ t.value ∷ []; named = st.named + 1 }
 with_suc st t zero h = absurd (omega arith)
 with_suc st t (suc e) h = refl
+
+-- ---- an entry within a group
+
+group_later : (s : Subject) (p : ℕ) (st : Reached) (n : ℕ) → 1 ≤ n → group_tests s p st n ≡ []
+group_later s p st zero h = absurd (omega arith)
+group_later s p st (suc n) h = refl
+
+behind_later : (s : Subject) (st : Reached) (n : ℕ) → 1 ≤ n → behind_group s st n ≡ st
+behind_later s st zero h = absurd (omega arith)
+behind_later s st (suc n) h = refl
+
+-- where it has the group's key, its name alone is tested
+pub within_tests : (s : Subject) (p : ℕ) (st : Reached) (t : Triple) → 1 ≤ st.entry → 2 ≤ st.entries → t.key ≡ st.key → is_lt (name_order st.before t.name) ≡ true → entry_tests s p st t.name (Some t) ≡ []
+within_tests s p st t some more key past =
+    both_fine (order_tests s.rules.part p st t.name t.key st.entry) (group_tests s p (with_entry st t st.entry) (st.entries - 1))
+    (order_suc s.rules.part p st t.name t.key st.entry some
+    ∙ both_fine (passes (is_lt (name_order st.before t.name)) (EntryOrder p st.group st.entry)) (passes (bytes_eq t.key st.key) (KeyDiffers p st.group st.entry)) (fine _ _ past)
+    (fine _ _ (ap (λ w. bytes_eq w st.key) key ∙ bytes_eq-same st.key)))
+    (group_later s p (with_entry st t st.entry) (st.entries - 1) (omega arith))
+
+pub within_after : (s : Subject) (st : Reached) (t : Triple) → 1 ≤ st.entry → 2 ≤ st.entries
+    → after_entry s st (Some t) ≡ record st { entry = st.entry + 1; entries = st.entries - 1; before = t.name; values = st.values ++ t.value ∷ []; named = st.named + 1 }
+within_after s st t some more = behind_later s (with_entry st t st.entry) (st.entries - 1) (omega arith) ∙ with_suc st t st.entry some

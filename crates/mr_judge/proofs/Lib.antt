@@ -11,5 +11,6 @@ pub mod MeterLemmas
 pub mod OutputLemmas
 pub mod PartLemmas
 mod ReadingLemmas
+pub mod RemainderLemmas
 pub mod RestLemmas
 pub mod VerdictLemmas

@@ -19,6 +19,10 @@ pub entries_more : (i : Item) (is : List Item) → entries_in (i ∷ is) ≡ ent
 entries_more (Entry name) is = omega arith
 entries_more i is = omega arith
 
+pub one_entry : (i : Item) → entries_in (i ∷ []) ≤ 1
+one_entry (Entry name) = omega arith
+one_entry i = omega arith
+
 with_named : (st : Reached) (t : Triple) (e : ℕ) → (with_entry st t e).named ≡ st.named + 1
 with_named st t zero = refl
 with_named st t (suc e) = refl

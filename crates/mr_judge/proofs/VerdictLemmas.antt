@@ -1,5 +1,5 @@
 -- From what the judge's functions find to the verdict.
-use Rattle.std.proofs.Common.{zero, suc, ◌≡◌, ℕ, ◌+◌, ◌≤◌, Bool, true, false, cond, Option, Some, None, List, [], ◌∷◌, ◌++◌, length, refl, ap, sym, ◌∙◌, arith, leb, eqb}
+use Rattle.std.proofs.Common.{zero, suc, ◌≡◌, ℕ, ◌+◌, Bool, true, false, cond, Option, Some, None, List, [], ◌∷◌, ◌++◌, length, refl, ap, sym, ◌∙◌, arith, leb, eqb}
 use Rattle.std.specs.Prelude.{Result, Ok, Err}
 use Rattle.std.proofs.lemmas.Bool.{false≢true, eq-eqb, ne_eqb}
 use Rattle.std.specs.List.{flat_map}
@@ -38,15 +38,6 @@ met_fault c (w ∷ ws) f behind (i ∷ is) e d = by (item_eq i w) d (met_fault c
     by : (b : Bool) → cond b (met c.stop ws f is) (Err f) ≡ Err e → (met c.stop ws f is ≡ Err e → first (wanted_faults c ws f behind is) ≡ Some e) → first (passes b f ++ wanted_faults c ws f behind is) ≡ Some e
     by true h more = more h
     by false h more = cc h
-
-pub met_length : (at : ℕ) (ws : List Item) (f : No) (is js : List Item) → met at ws f is ≡ Ok js → length is ≡ length ws + length js
-met_length at [] f is js e = let same : is ≡ js = cc e in omega (arith, ap length same)
-met_length at (w ∷ ws) f [] js e = absurd (cc e)
-met_length at (w ∷ ws) f (i ∷ is) js e = by (item_eq i w) e (met_length at ws f is js)
-  where
-    by : (b : Bool) → cond b (met at ws f is) (Err f) ≡ Ok js → (met at ws f is ≡ Ok js → length is ≡ length ws + length js) → length (i ∷ is) ≡ length (w ∷ ws) + length js
-    by true h more = omega (arith, more h)
-    by false h more = absurd (cc h)
 
 -- what is met lists neither left-out records nor entries
 plain : (a : Accepted) (i w : Item) (is : List Item) → item_eq i w ≡ true → accepted_by a (i ∷ is) ≡ accepted_by a is
@@ -133,16 +124,6 @@ listed_accepted rs at (suc n) ss (Skip s ∷ is) r e = by (skip_fault rs (last_o
     by (Some f) h more = absurd (cc h)
 listed_accepted rs at (suc n) ss (i ∷ is) r e = let same : record { skips = ss; behind = i ∷ is } ≡ r = cc e in ap (λ (w : Listed). accepted_by (record { skips = w.skips; pairs = 0 }) w.behind) same
 
-pub listed_few : (rs : List NamedRecord) (at n : ℕ) (ss : List RecordName) (is : List Item) (r : Listed) → listed rs at n ss is ≡ Ok r → length r.behind ≤ length is
-listed_few rs at zero ss is r e = let same : record { skips = ss; behind = is } ≡ r = cc e in omega (arith, ap (λ (w : Listed). length w.behind) same)
-listed_few rs at (suc n) ss [] r e = absurd (cc e)
-listed_few rs at (suc n) ss (Skip s ∷ is) r e = by (skip_fault rs (last_of ss) s (length ss)) e (listed_few rs at n (ss ++ s ∷ []) is r)
-  where
-    by : (o : Option No) → unless o (listed rs at n (ss ++ s ∷ []) is) ≡ Ok r → (listed rs at n (ss ++ s ∷ []) is ≡ Ok r → length r.behind ≤ length is) → length r.behind ≤ length (Skip s ∷ is)
-    by None h more = omega (arith, more h)
-    by (Some f) h more = absurd (cc h)
-listed_few rs at (suc n) ss (i ∷ is) r e = let same : record { skips = ss; behind = i ∷ is } ≡ r = cc e in omega (arith, ap (λ (w : Listed). length w.behind) same)
-
 pub listed_no_skip : (rs : List NamedRecord) (at n : ℕ) (ss : List RecordName) (is : List Item) (r : Listed) → skips_in_front n is ≡ true → listed rs at n ss is ≡ Ok r → no_skip r.behind ≡ true
 listed_no_skip rs at zero ss is r front e = let same : record { skips = ss; behind = is } ≡ r = cc e in ap (λ (w : Listed). no_skip w.behind) (sym same) ∙ front
 listed_no_skip rs at (suc n) ss [] r front e = absurd (cc e)
@@ -206,9 +187,6 @@ pub rest_fault : (c : WalkCase) (most at : ℕ) (cut : Cut) (is : List Item) (k 
     → first (count_faults c is) ≡ Some f
 rest_fault c most at cut is k f m e a d h = ap first (counted_faults c most is k m e) ∙ listed_fault c k.many [] k.behind f (listed_by c at k.many cut k.behind (Err f) a d h)
 
-pub rest_few : (rs : List NamedRecord) (stop most at : ℕ) (is : List Item) (k : Counted) (r : Listed) → counted stop most is ≡ Ok k → listed rs at k.many [] k.behind ≡ Ok r → length r.behind ≤ length is
-rest_few rs stop most at is k r e h = omega (arith, ap length (counted_is stop most is k e).0, listed_few rs at k.many [] k.behind r h)
-
 pub rest_accepted : (rs : List NamedRecord) (stop most at : ℕ) (is : List Item) (k : Counted) (r : Listed) → awaits_skips is ≡ true → counted stop most is ≡ Ok k → listed rs at k.many [] k.behind ≡ Ok r
     → accepted_by (accepted [] 0) is ≡ accepted r.skips (entries_in r.behind)
 rest_accepted rs stop most at is k r awaits e h =
@@ -216,10 +194,6 @@ rest_accepted rs stop most at is k r awaits e h =
     ∙ (listed_accepted rs at k.many [] k.behind r h
     ∙ (parts_accepted (accepted r.skips 0) r.behind (listed_no_skip rs at k.many [] k.behind r (front_listed stop most is k awaits e) h)
     ∙ (let z : 0 + entries_in r.behind ≡ entries_in r.behind = omega arith in ap (accepted r.skips) z)))
-
-pub case_same : (request : RequestSpec) (files others outputs : List (List ℕ)) (skips : List RecordName) (at to : ℕ) (is : List Item) → others ≡ files → to ≡ at
-    → part_faults (subject_of (case_at request others outputs to) skips) to start is ≡ part_faults (subject_of (case_at request files outputs at) skips) at start is
-case_same request files others outputs skips at to is e d = rw (e, d) refl
 
 -- ---- all of it
 
@@ -246,14 +220,6 @@ pub header_accepted : (at : ℕ) (o : RequestSpec) (files : List (List ℕ)) (a 
 header_accepted at o files a is ks e =
     let h = header_ok at o files is ks e in
     met_accepted at (job_wanted o) OtherJob a is h.0 h.1 ∙ met_accepted at (input_wanted files) OtherInput a h.0 ks h.2
-
--- at least the first item is met
-pub header_few : (at : ℕ) (o : RequestSpec) (files : List (List ℕ)) (is ks : List Item) → header_met at o files is ≡ Ok ks → length ks + 1 ≤ length is
-header_few at o files is ks e =
-    let h = header_ok at o files is ks e in
-    let one = met_length at (job_wanted o) OtherJob is h.0 h.1 in
-    let two = met_length at (input_wanted files) OtherInput h.0 ks h.2 in
-    omega (arith, one, two)
 
 abbrev whole_case : RequestSpec → List (List ℕ) → List (List ℕ) → List ℕ → WalkCase
 whole_case request files outputs bytes = case_at request files outputs (stop bytes)

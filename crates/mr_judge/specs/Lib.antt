@@ -3,6 +3,7 @@ pub mod Kinds
 pub mod Outputs
 pub mod Reading
 pub mod Readers
+pub mod Remainder
 pub mod Rows
 pub mod From
 pub mod Metered

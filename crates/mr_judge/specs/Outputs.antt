@@ -140,7 +140,12 @@ IsTold fs n (Err e) = Unit {0}
 abbrev pub Looked : List Item → ℕ → ℕ → Type 0
 Looked is before behind = (before ≤ behind) × (behind ≤ before + entries_in is)
 
--- an answer on items that may come, judged from the first partition on, and how many names were looked up before and behind
+-- an answer on items that may come, judged from here on, and how many names were looked up before and behind
+abbrev pub JudgesOn : Coming → Subject → Reached → ℕ → ℕ → Result ℕ JudgeError → Type 0
+JudgesOn old s st before behind answer =
+    (is : List Item) × ((at : ℕ) × (old is at × (IsTold (part_faults s at st is) (st.named + entries_in is) answer × Looked is before behind)))
+
+-- the same from the first partition on
 abbrev pub Judges : Coming → Subject → ℕ → ℕ → Result ℕ JudgeError → Type 0
 Judges old s before behind answer =
     (is : List Item) × ((at : ℕ) × (old is at × (IsTold (part_faults s at start is) (entries_in is) answer × Looked is before behind)))

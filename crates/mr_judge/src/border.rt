@@ -20,7 +20,8 @@ pub struct Border<'a> {
 }
 
 fn is_same_key(one: Option<&[u8]>, other: Option<&[u8]>) -> bool
-    ensures { IsTrue result ↔ (option_map (λ r. r.now) one.entry ≡ option_map (λ r. r.now) other.entry) }
+    ensures { IsTrue result
+        ↔ (option_map (λ r. r.now) one.entry ≡ option_map (λ r. r.now) other.entry) }
 {
     match (one, other) {
         (None, None) => true,

@@ -21,7 +21,8 @@ use std::cmp::Ordering;
 pub(crate) fn test_end<O: Outputs>(outputs: &mut O, p: u64, groups: u64) -> Result<(), JudgeError>
     requires begun { O.begun outputs.old }
     requires some { CanCome (O.gives outputs.old) }
-    ensures told { EndTold (O.gives outputs.old) (O.gives outputs.new) p groups (O.place outputs.old) result }
+    ensures told { EndTold (O.gives outputs.old) (O.gives outputs.new) p groups
+        (O.place outputs.old) result }
     ensures some { CanCome (O.gives outputs.new) }
     ensures place { OnOk result (O.place outputs.new ≡ O.place outputs.old) }
     ensures begun { O.begun outputs.new }
@@ -104,6 +105,7 @@ pub(crate) struct EntryPlace {
 }
 
 /// A later entry's tests: its name is past the one before, and its key is the group's.
+#[inline(always)]
 pub(crate) fn test_later(
     place: EntryPlace,
     before: Name,

@@ -33,7 +33,8 @@ fn failures_of<R: CountedRead>(alloc: Global, readers: &[R]) -> Result<Vec<u64>,
 fn first_failed<R: CountedRead>(readers: &[R], before: &[u64]) -> Option<u64>
     requires { length readers.now ≡ length before.now }
     ensures { MatchOption result (map R.failed readers.now ≡ before.now)
-        (λ p. (p < length before.now) × (get_or (map R.failed readers.now) p 0 ≡ get_or before.now p 0 → ⊥)) }
+        (λ p. (p < length before.now)
+        × (get_or (map R.failed readers.now) p 0 ≡ get_or before.now p 0 → ⊥)) }
 {
     for i in 0..readers.len() {
         if readers[i].failures() != before[i] {
@@ -52,8 +53,8 @@ fn judge_lent<R: CountedRead, C: CountedRead>(
 ) -> Result<Yes, JudgeError>
     requires parts { length outputs.old ≡ computation.now.request.now.parts }
     requires known { IfSome (C.remaining certificate.old) AreBytes }
-    ensures { StopOfSome computation.now.request.now computation.now.input.now (map R.remaining outputs.old)
-        (C.remaining certificate.old) result }
+    ensures { StopOfSome computation.now.request.now computation.now.input.now
+        (map R.remaining outputs.old) (C.remaining certificate.old) result }
 {
     let mut outputs = ReaderOutputs::new(alloc, outputs)?;
     let mut walker = StreamWalker::new(
@@ -100,8 +101,8 @@ fn judge_from<R: CountedRead, C: CountedRead>(
     certificate: &mut C,
     progress: &dyn Progress,
 ) -> Result<Yes, No>
-    ensures judged { VerdictOfSome computation.now.request.now computation.now.input.now (map R.remaining outputs.old)
-        (C.remaining certificate.old) result }
+    ensures judged { VerdictOfSome computation.now.request.now computation.now.input.now
+        (map R.remaining outputs.old) (C.remaining certificate.old) result }
     ensures device { IsDevice (map R.failed outputs.old) (map R.failed outputs.new)
         (C.failed certificate.old) (C.failed certificate.new) result }
 {
@@ -160,11 +161,12 @@ pub fn judge_readers<R: CountedRead, C: CountedRead>(
     certificate: &mut C,
     progress: &dyn Progress,
 ) -> Result<Yes, No>
-    ensures judged { Judged computation.now.request.now computation.now.input.now (map R.remaining outputs.old)
-        (C.remaining certificate.old) result }
+    ensures judged { Judged computation.now.request.now computation.now.input.now
+        (map R.remaining outputs.old) (C.remaining certificate.old) result }
     ensures headline { IfOk result (λ y. (outs : List (List ℕ)) (bytes : List ℕ)
         → Give (map R.remaining outputs.old) (C.remaining certificate.old) outs bytes
-        → IsCertified computation.now.request.now computation.now.input.now outs bytes y.skips.items y.pairs) }
+        → IsCertified computation.now.request.now computation.now.input.now outs bytes
+        y.skips.items y.pairs) }
     ensures verdict { (outs : List (List ℕ)) (bytes : List ℕ)
         → Give (map R.remaining outputs.old) (C.remaining certificate.old) outs bytes
         → IsVerdictFrom computation.now.request.now computation.now.input.now outs bytes result }

@@ -1,7 +1,6 @@
 //! The judge, from the bytes of a certificate to the verdict.
-ghost use Rattle.std.specs.Prelude.{◌≡◌, ◌⊎◌, ℕ, List, ◌<◌, ◌≤◌, ◌+◌, ◌^◌, IfOk, IfErr, length};
+ghost use Rattle.std.specs.Prelude.{◌≡◌, ◌⊎◌, ℕ, List, ◌<◌, ◌≤◌, ◌^◌, IfOk, IfErr, length};
 ghost use Rattle.mr_input.specs.Files.{contents, split_total};
-ghost use Rattle.mr_splits.specs.Cut.{records_of};
 ghost use Rattle.mr_certform.specs.declared.grammar_state.Item.{Item as Read};
 ghost use Rattle.mr_certform.specs.declared.grammar_state.GrammarState.TheVariants.{AtMagic};
 ghost use Rattle.mr_certform.specs.declared.grammar_state.GrammarState.TheVariants.{AtSkips};
@@ -12,16 +11,16 @@ ghost use Rattle.mr_verdict.specs.declared.answers.No.TheVariants.{OutOfMemory};
 ghost use Rattle.mr_verdict.specs.Verdict.{start, subject_of, verdict_of};
 ghost use Rattle.mr_verdict.specs.Cases.{IsVerdictOn, IsWorth, verdict_on};
 ghost use Rattle.mr_verdict.specs.Headline.{IsCertified, accepted_of};
-ghost use Rattle.mr_judge.specs.Metered.{IsBounded, IsExact, cut_by};
+ghost use Rattle.mr_judge.specs.Metered.{IsBounded, IsExact, MapsExactly, MapsOnce, cut_by};
 ghost use Rattle.mr_verdict.specs.Steps.{case_at};
 ghost use Rattle.mr_judge.specs.Kinds.{InKind};
 ghost use Rattle.mr_verdict.specs.Items.{CanCome, Each};
 ghost use Rattle.mr_judge.specs.Outputs.{CanCome as CanComeAhead, Fits, Through, RestJudged};
 ghost use Rattle.mr_judge.specs.Outputs.{AllJudged, HaltsItems, HaltsOutputs, begins};
 
-use crate::judge_state::JudgeState;
+use crate::border::Border;
 use crate::outputs::{MemoryOutputs, Outputs};
-use crate::parts::check_parts;
+use crate::parts::{PlainWalk, check_parts};
 use mr_bytes::{Progress, Unwatched};
 use mr_certform::Walker;
 use mr_index::{EmissionIndex, Meter};
@@ -61,7 +60,8 @@ pub fn plan_of<'a>(
     input: &'a Input,
 ) -> Result<Plan<'a>, AllocError>
     requires { split_total request.now.split input.now ≤ 2 ^ 20 }
-    ensures plan { IfOk result (λ r. r ≡ record { size = request.now.split; files = input.entry.now }) }
+    ensures plan { IfOk result
+        (λ r. r ≡ record { size = request.now.split; files = input.entry.now }) }
 {
     Plan::new_fitting(alloc, input, request.split_size())
 }
@@ -86,13 +86,10 @@ fn check_rest<I: ItemSource, O: Outputs>(
     ensures judged { Through (O.gives outputs.old) start
         (RestJudged (I.gives walker.old) computation.now.request.now computation.now.input.now
         work.old.meter.lookups work.new.meter.lookups result) }
-    ensures mapped { (work.old.meter.mapped ≤ work.new.meter.mapped)
-        × (work.new.meter.mapped
-        ≤ work.old.meter.mapped + length
-        (records_of (cut_by computation.now.request.now computation.now.input.now))) }
-    ensures exact { IfOk result (λ y. IsExact
-        (cut_by computation.now.request.now computation.now.input.now)
-        y.skips.items y.pairs work.old.meter work.new.meter) }
+    ensures mapped { MapsOnce (cut_by computation.now.request.now computation.now.input.now)
+        work.old.meter work.new.meter }
+    ensures exact { MapsExactly (cut_by computation.now.request.now computation.now.input.now)
+        work.old.meter work.new.meter result }
     ensures stops { HaltsItems I.steady (I.failed walker.old) (I.failed walker.new) result }
     ensures halts { HaltsOutputs O.steady (O.failed outputs.old) (O.failed outputs.new) result }
 {
@@ -106,8 +103,13 @@ fn check_rest<I: ItemSource, O: Outputs>(
         let _few = plan.count();
         let meter = &mut work.meter;
         let index = EmissionIndex::of_watched(work.alloc, &kept, request.job(), meter, watch)?;
-        let mut judging = JudgeState::new(work.alloc);
-        check_parts(request, &index, outputs, walker, meter, watch, &mut judging)?
+        let walk = PlainWalk {
+            request,
+            index: &index,
+            border: Border::before(0),
+            named: 0,
+        };
+        check_parts(&walk, outputs, walker, work, watch)?
     };
     Ok(Yes { skips, pairs })
 }
@@ -141,13 +143,10 @@ pub(crate) fn judge_all<I: ItemSource, O: Outputs>(
     ensures judged { Through (O.gives outputs.old) start
         (AllJudged (I.gives walker.old) computation.now.request.now computation.now.input.now
         work.old.meter.lookups work.new.meter.lookups result) }
-    ensures mapped { (work.old.meter.mapped ≤ work.new.meter.mapped)
-        × (work.new.meter.mapped
-        ≤ work.old.meter.mapped + length
-        (records_of (cut_by computation.now.request.now computation.now.input.now))) }
-    ensures exact { IfOk result (λ y. IsExact
-        (cut_by computation.now.request.now computation.now.input.now)
-        y.skips.items y.pairs work.old.meter work.new.meter) }
+    ensures mapped { MapsOnce (cut_by computation.now.request.now computation.now.input.now)
+        work.old.meter work.new.meter }
+    ensures exact { MapsExactly (cut_by computation.now.request.now computation.now.input.now)
+        work.old.meter work.new.meter result }
     ensures stops { HaltsItems I.steady (I.failed walker.old) (I.failed walker.new) result }
     ensures halts { HaltsOutputs O.steady (O.failed outputs.old) (O.failed outputs.new) result }
 {
@@ -162,8 +161,8 @@ fn judge_at_hand(case: &Case<'_>, work: &mut Work, progress: &dyn Progress) -> R
     ensures verdict { IsVerdictOn case.now result }
     ensures bounded { IsBounded (cut_by case.now.request.now case.now.input.now)
         (items_of case.now.certificate.now) work.old.meter work.new.meter }
-    ensures exact { IfOk result (λ y. IsExact (cut_by case.now.request.now case.now.input.now)
-        y.skips.items y.pairs work.old.meter work.new.meter) }
+    ensures exact { MapsExactly (cut_by case.now.request.now case.now.input.now)
+        work.old.meter work.new.meter result }
 {
     // A request's splits have at least one byte.
     let _size = case.request.split_size();
@@ -183,8 +182,8 @@ fn judge_at_hand(case: &Case<'_>, work: &mut Work, progress: &dyn Progress) -> R
     }
 }
 
-/// The verdict on a case. It looks up each entry in an index of all pairs. It reports now and then to
-/// `progress` how many records are mapped, and after that how many pairs are judged.
+/// The verdict on a case. It looks up each entry in an index of all pairs. It reports now and then
+/// to `progress` how many records are mapped, and after that how many pairs are judged.
 pub fn judge_plainly(alloc: Global, case: &Case<'_>, progress: &dyn Progress) -> Result<Yes, No>
     ensures headline { IfOk result (IsWorth case.now) }
     ensures yes { IfOk result (λ y. verdict_on case.now ≡ Ok (accepted_of y)) }
@@ -193,9 +192,9 @@ pub fn judge_plainly(alloc: Global, case: &Case<'_>, progress: &dyn Progress) ->
     judge_at_hand(case, &mut Work::new(alloc), progress)
 }
 
-/// What `judge_plainly` does, adding what it looks up and maps to the meter, whose counts are at most
-/// 2^63 before. It looks up each entry and maps each record at most once; on a yes, each pair and each
-/// record that isn't left out exactly once. The clauses speak only of the meter. That nothing is
+/// What `judge_plainly` does, adding what it looks up and maps to the meter, whose counts are at
+/// most 2^63 before. It looks up each entry and maps each record at most once; on a yes, each pair
+/// and each record that isn't left out exactly once. The clauses speak only of the meter. That nothing is
 /// looked up or mapped uncounted rests on the code of the index. On a no they say only that counts
 /// didn't fall and stayed within bounds.
 pub fn check_metered(
@@ -211,7 +210,8 @@ pub fn check_metered(
     ensures headline { IfOk result (λ y. IsCertified request.now input.now
         (contents outputs.now) certificate.now y.skips.items y.pairs) }
     ensures yes { IfOk result
-        (λ y. verdict_of request.now input.now (contents outputs.now) certificate.now ≡ Ok (accepted_of y)) }
+        (λ y. verdict_of request.now input.now (contents outputs.now) certificate.now
+        ≡ Ok (accepted_of y)) }
     ensures no { IfErr result (λ e. (e ≡ OutOfMemory)
         ⊎ (verdict_of request.now input.now (contents outputs.now) certificate.now ≡ Err e)) }
     ensures bounded { IsBounded (cut_by request.now input.now)

@@ -1,19 +1,20 @@
 //! The state of the judge in the partitions, and its steps, item by item.
 ghost use Rattle.std.specs.Prelude.{◌≡◌, ◌<◌, ◌≤◌, ◌+◌, ◌-◌, ◌^◌, ◌++◌, ◌∷◌, []};
-ghost use Rattle.std.specs.Prelude.{MatchResult, OnOk, None, Some, true, length};
+ghost use Rattle.std.specs.Prelude.{IfOk, IsTrue, MatchResult, OnOk, None, Some, true, length};
+ghost use Rattle.mr_verdict.specs.Verdict.{Subject as Judged};
 ghost use Rattle.mr_input.specs.Files.{nth_file};
 ghost use Rattle.mr_sequential.specs.Rules.{rules_of};
 ghost use Rattle.mr_certform.specs.declared.grammar_state.Item.TheVariants.{Entry};
-ghost use Rattle.mr_verdict.specs.Verdict.{start, first_tests, later_tests, order_tests};
+ghost use Rattle.mr_verdict.specs.Verdict.{first_tests, later_tests, order_tests};
 ghost use Rattle.mr_verdict.specs.Verdict.{with_entry, group_tests, behind_group, entry_tests};
 ghost use Rattle.mr_verdict.specs.Verdict.{after_entry, end_tests};
 ghost use Rattle.mr_verdict.specs.Steps.{Answers, HasRoom, opens};
 ghost use Rattle.mr_judge.specs.Rows.{row_subject, brought, row_tests, row_after};
-ghost use Rattle.mr_judge.specs.Borders.{at_border, between};
+ghost use Rattle.mr_judge.specs.Borders.{at_border, behind_entries, between};
 ghost use Rattle.mr_judge.specs.Outputs.{CanCome, Tested, Halts};
 
 use crate::border::{Border, FoundItem};
-use crate::entry_tests::{EntryPlace, test_end, test_first, test_later};
+use crate::entry_tests::{EntryPlace, is_name_less, test_end, test_first, test_later};
 use crate::lines::test_group;
 use crate::outputs::Outputs;
 use mr_bytes::{Name, Value, ValueColumn};
@@ -64,16 +65,16 @@ impl<'a> Model for JudgeState<'a> {
 }
 
 impl<'a> JudgeState<'a> {
-    /// Before the first partition.
-    pub fn new(alloc: Global) -> JudgeState<'a>
-        ensures { result ≡ start }
-    {
-        JudgeState::at(alloc, &Border::before(0))
-    }
-
     /// At a border, with nothing known of what comes before it.
     pub fn at(alloc: Global, border: &Border<'a>) -> JudgeState<'a>
         ensures { result ≡ at_border border.now }
+    {
+        JudgeState::resume(alloc, border, 0)
+    }
+
+    /// At a border, after `named` entries.
+    pub fn resume(alloc: Global, border: &Border<'a>, named: u64) -> JudgeState<'a>
+        ensures { result ≡ behind_entries border.now named }
     {
         JudgeState {
             next: border.next,
@@ -90,7 +91,7 @@ impl<'a> JudgeState<'a> {
             },
             values: ValueColumn::new(alloc),
             from: border.from,
-            named: 0,
+            named,
             text: Vec::new(alloc),
         }
     }
@@ -164,7 +165,12 @@ impl<'a> JudgeState<'a> {
     fn close_group(&mut self, from: u64)
         requires { self.old.group + 1 < 2 ^ 64 }
         ensures { self.new
-            ≡ record self.old { groups = self.old.groups - 1; group = self.old.group + 1; key_before = Some self.old.key; from = from } }
+            ≡ record self.old {
+              groups = self.old.groups - 1;
+              group = self.old.group + 1;
+              key_before = Some self.old.key;
+              from = from;
+            } }
     {
         self.groups = self.groups.saturating_sub(1);
         self.group += 1;
@@ -194,6 +200,7 @@ impl<'a> JudgeState<'a> {
         Ok(())
     }
 
+    #[inline(always)]
     fn take_later(&mut self, name: Name, value: Value) -> Result<(), AllocError>
         requires { HasRoom self.old }
         ensures { OnOk result (self.new
@@ -241,6 +248,7 @@ impl<'a> JudgeState<'a> {
         Ok(())
     }
 
+    #[inline(never)]
     fn first_entry(
         &mut self,
         request: &Request,
@@ -260,6 +268,7 @@ impl<'a> JudgeState<'a> {
         Ok(())
     }
 
+    #[inline(always)]
     fn later_entry(&mut self, name: Name, key: &[u8], value: Value) -> Result<(), No>
         requires { HasRoom self.old }
         ensures { let fs = later_tests (self.old.next - 1) self.old.group self.old.entry
@@ -278,6 +287,34 @@ impl<'a> JudgeState<'a> {
         Ok(())
     }
 
+    /// Whether the next entry is neither the first nor the last one of its group.
+    #[inline(always)]
+    pub fn is_within_group(&self) -> bool
+        ensures { IsTrue result → (1 ≤ self.now.entry) × (2 ≤ self.now.entries) }
+    {
+        self.entry > 0 && self.entries > 1
+    }
+
+    /// Takes an entry with the group's key that is neither the first nor the last one of its group.
+    /// Returns whether its name is past the one before: nothing else is tested of it.
+    #[inline(always)]
+    pub fn take_within_group(&mut self, name: Name, value: Value) -> Result<bool, AllocError>
+        requires room { HasRoom self.old }
+        requires within { (1 ≤ self.old.entry) × (2 ≤ self.old.entries) }
+        ensures { IfOk result (λ b. IsTrue b → (s : Judged)
+            → (entry_tests s (self.old.next - 1) self.old name (Some
+            (record { key = self.old.key; value = value; name = name })) ≡ [])
+            × (self.new ≡ after_entry s self.old (Some
+            (record { key = self.old.key; value = value; name = name })))) }
+    {
+        if !is_name_less(self.before, name) {
+            return Ok(false);
+        }
+        self.take_later(name, value)?;
+        Ok(true)
+    }
+
+    #[inline(always)]
     #[tactic(auto, using(crate::proofs::Faults::order_zero, crate::proofs::Faults::with_zero, crate::proofs::Faults::order_suc, crate::proofs::Faults::with_suc))]
     fn order_entry(
         &mut self,
@@ -302,6 +339,7 @@ impl<'a> JudgeState<'a> {
     }
 
     /// Ends the group where no entry is left.
+    #[inline(always)]
     fn end_entry<O: Outputs>(
         &mut self,
         request: &Request,
@@ -340,7 +378,8 @@ impl<'a> JudgeState<'a> {
         requires begun { O.begun outputs.old }
         requires some { CanCome (O.gives outputs.old) }
         requires place { O.place outputs.old ≡ self.old.from }
-        ensures tested { let t = Some (record { key = found.entry.0.now; value = found.entry.1; name = name }) in
+        ensures tested { let t = Some
+            (record { key = found.entry.0.now; value = found.entry.1; name = name }) in
             Tested (O.gives outputs.old) (O.gives outputs.new) self.old self.new
             (λ outs. entry_tests (row_subject request.now outs) (self.old.next - 1) self.old name t)
             (λ outs. after_entry (row_subject request.now outs) self.old t) result }
@@ -393,7 +432,13 @@ impl<'a> JudgeState<'a> {
         requires some { CanCome (O.gives outputs.old) }
         ensures tested { Tested (O.gives outputs.old) (O.gives outputs.new) self.old self.new
             (λ outs. end_tests (nth_file outs self.old.next) self.old.next groups 0)
-            (λ _. record self.old { next = self.old.next + 1; groups = groups; group = 0; key_before = None; from = 0 }) result }
+            (λ _. record self.old {
+              next = self.old.next + 1;
+              groups = groups;
+              group = 0;
+              key_before = None;
+              from = 0;
+            }) result }
         ensures some { CanCome (O.gives outputs.new) }
         ensures place { OnOk result (O.place outputs.new ≡ self.new.from) }
         ensures begun { O.begun outputs.new }
@@ -405,8 +450,8 @@ impl<'a> JudgeState<'a> {
         Ok(())
     }
 
-    /// Makes all tests of a row's item in their order, by the pair that the row brings. The end isn't
-    /// tested: it is tested against the number of all pairs.
+    /// Makes all tests of a row's item in their order, by the pair that the row brings. The end
+    /// isn't tested: it is tested against the number of all pairs.
     #[inline(always)]
     pub fn step<O: Outputs>(
         &mut self,

@@ -11,6 +11,7 @@ mod lines;
 mod outputs;
 mod parts;
 mod readers;
+mod remainder;
 
 pub use border::{Border, FoundItem};
 pub use entry_tests::test_named;
@@ -19,3 +20,4 @@ pub use judge::{check_metered, judge_plainly, plan_of, walk};
 pub use judge_state::JudgeState;
 pub use outputs::{MemoryOutputs, OutputError, Outputs};
 pub use readers::ByRef;
+pub use remainder::{Remainder, judge_remainder};

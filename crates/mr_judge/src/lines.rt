@@ -1,6 +1,6 @@
-//! Compares the text of a group with the output as it is made: line by line where it has a line for
-//! each value. The fast yes takes a group's key from an output, and steps before it tests the pairs:
-//! n entries under a line of L bytes would make a text of n times L bytes, which no input bounds.
+//! Compares the text of a group with the output as it is made: line by line where it has a line
+//! for each value. The fast yes takes a group's key from an output, and steps before it tests the
+//! pairs: n entries under a line of L bytes would make a text of n times L bytes, which no input bounds.
 ghost use Rattle.std.specs.Prelude.{◌≡◌, ◌+◌, ◌∷◌, [], OnOk, true, length};
 ghost use Rattle.mr_jobs.specs.JobSpec.{has_lines};
 ghost use Rattle.mr_reduce.specs.Text.{text_of};

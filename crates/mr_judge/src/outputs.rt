@@ -96,7 +96,8 @@ impl<'a> MemoryOutputs<'a> {
 
     /// The output before partition `next` is open, and `from` of its bytes were passed.
     pub fn at(outputs: &'a [Vec<u8>], next: u64, from: u64) -> MemoryOutputs<'a>
-        ensures rest { result.rest.now ≡ drop from (nth_file (contents outputs.entry.now) (next - 1)) }
+        ensures rest { result.rest.now
+            ≡ drop from (nth_file (contents outputs.entry.now) (next - 1)) }
         ensures later { result.later.now ≡ drop next outputs.entry.now }
         ensures passed { result.passed ≡ from }
     {

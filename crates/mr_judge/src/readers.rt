@@ -28,7 +28,8 @@ pub(crate) struct ReaderOutputs<'a, R> {
 /// Replaces the buffer's bytes by the next ones. Returns their number: 0 only at the end.
 fn read_anew<R: CountedRead>(buffer: &mut ReadBuffer, reader: &mut R) -> Result<usize, Device>
     ensures read { MatchResult result
-        (λ n. (length buffer.new ≡ n) × Consumes (R.remaining reader.old) (R.remaining reader.new) buffer.new
+        (λ n. (length buffer.new ≡ n)
+        × Consumes (R.remaining reader.old) (R.remaining reader.new) buffer.new
         × (n ≡ 0 → IsAtEnd (R.remaining reader.new)))
         (λ _. (buffer.new ≡ []) × Keeps (R.remaining reader.old) (R.remaining reader.new)) }
     ensures count { Counts (R.failed reader.old) (R.failed reader.new) result }

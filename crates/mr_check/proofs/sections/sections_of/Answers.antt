@@ -1,12 +1,11 @@
 use Rattle.std.proofs.Common.{All, sym, subst}
-use Rattle.mr_certform.specs.Walking.{items_left}
 use Rattle.mr_check.specs.Sections.{IsSection}
 use Rattle.std.proofs.lemmas.List.Elements.{All-push}
 use Rattle.mr_check.proofs.sections.sections_of.Goals as goal
 
 pub loop-group-preserved-in-Continue-branch-2 : goal.loop-group-preserved-in-Continue-branch-2
 loop-group-preserved-in-Continue-branch-2 c =
-    let all = items_left c.args.walker.now in
+    let all = c.args.walker.now in
     let inv = c.loop-group.invariant in
     record {
       here = c.in-Some.ensures.passed all inv.here;

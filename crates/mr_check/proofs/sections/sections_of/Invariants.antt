@@ -1,12 +1,12 @@
-use Rattle.std.proofs.Common.{◌≡◌, All, drop, length}
+use Rattle.std.proofs.Common.{All, length}
 use Rattle.mr_certform.specs.Walking.{items_left}
-use Rattle.mr_check.specs.Sections.{IsSection}
+use Rattle.mr_check.specs.Sections.{IsAt, IsSection}
 use Rattle.mr_check.proofs.sections.sections_of.Given as goal
 
 abbrev pub invariant-loop-group : goal.invariant-loop-group
 invariant-loop-group l = record {
-  here : items_left l.here.walker ≡ drop l.here.at (items_left l.walker);
-  sections : All (IsSection (items_left l.walker)) l.sections.items;
+  here : IsAt l.walker l.here;
+  sections : All (IsSection l.walker) l.sections.items;
 }
 
 abbrev pub decreases-loop-group : goal.decreases-loop-group

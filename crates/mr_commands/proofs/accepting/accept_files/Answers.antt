@@ -12,5 +12,5 @@ returns g c =
     let options = job.asked.now.options in
     accepted_answers holds job (contents c.as_slice-outputs.result.now) (g.S.Reader.CountedRead.remaining c.in-Ok-reader.certificate) c.accept_read.result
     (subst (λ v. Holding holds (part_names options.out.now options.parts) (contents v)) (sym c.as_slice-outputs.ensures.value) c.in_ok-outputs.ensures)
-    (λ b a. subst (λ n. holds n b) (c.as_str-2.ensures.value ∙ c.in-Ok.ensures) (c.in-Ok-reader.ensures.bytes b a))
+    (λ b a. subst (λ n. holds n b) (c.as_str.ensures.value ∙ c.in-Ok.ensures) (c.in-Ok-reader.ensures.bytes b a))
     c.accept_read.ensures

@@ -1,13 +1,15 @@
-use Rattle.std.proofs.Common.{◌≡◌, ℕ, List, length, refl, ap, ◌∙◌, subst, arith}
+use Rattle.std.proofs.Common.{◌≡◌, ℕ, List, length, refl, ap, sym, ◌∙◌, subst, inl, arith}
 use Rattle.std.specs.Prelude.{Ok, Err}
 use Rattle.std.proofs.lemmas.Result.{err_from_is_err_and}
 use Rattle.mr_splits.specs.Cut.{Cut, records_of}
 use Rattle.mr_splits.specs.Kept.{Choice}
 use Rattle.mr_bytes.specs.declared.RecordName.{RecordName}
-use Rattle.mr_verdict.specs.Verdict.{Subject, start, subject_of}
+use Rattle.mr_verdict.specs.Verdict.{Reached, Subject, start, subject_of}
 use Rattle.mr_index.proofs.WorkLemmas.{mapped-few}
-use Rattle.mr_verdict.specs.Steps.{subject_with, case_at}
-use Rattle.mr_judge.specs.Outputs.{Judges, RestJudged}
+use Rattle.mr_verdict.specs.Steps.{Ground, subject_with, case_at}
+use Rattle.mr_judge.specs.Borders.{behind_entries}
+use Rattle.mr_judge.specs.Outputs.{Fits, Judges, RestJudged}
+use Rattle.mr_judge.proofs.JudgingLemmas.{at_start, judges_first, start_small}
 use Rattle.mr_judge.proofs.GrammarLemmas.{awaits}
 use Rattle.mr_judge.proofs.KindLemmas.{in_kind}
 use Rattle.mr_judge.specs.Kinds.{InKind}
@@ -28,8 +30,17 @@ pub check_parts-requires-clause-begins : goal.check_parts-requires-clause-begins
 check_parts-requires-clause-begins g c =
     let gives = g.I.ItemSource.gives in
     let skips : List RecordName = c.in_ok-skips.skips.items in
-    parts_begin (gives c.args.walker.now) (gives c.read_skips.new.items) c.args.computation.now.request.now c.in_ok-plan.plan c.max_skips.result c.in_ok-listed.listed skips c.requires.order
-    (listing (gives c.args.walker.now) (gives c.expect_count.new.items) (gives c.read_skips.new.items) c.in_ok-plan.plan c.max_skips.result c.in_ok-listed.listed skips c.in_ok-listed.ensures.counted c.in_ok-skips.ensures.listed)
+    inl (parts_begin (gives c.args.walker.now) (gives c.read_skips.new.items) c.args.computation.now.request.now c.in_ok-plan.plan c.max_skips.result c.in_ok-listed.listed skips c.requires.order
+    (listing (gives c.args.walker.now) (gives c.expect_count.new.items) (gives c.read_skips.new.items) c.in_ok-plan.plan c.max_skips.result c.in_ok-listed.listed skips c.in_ok-listed.ensures.counted c.in_ok-skips.ensures.listed))
+
+pub check_parts-requires-clause-small : goal.check_parts-requires-clause-small
+check_parts-requires-clause-small g c = start_small c.before-2.result c.before-2.ensures
+
+pub check_parts-requires-clause-fits : goal.check_parts-requires-clause-fits
+check_parts-requires-clause-fits g c = subst (Fits (g.O.Outputs.gives c.args.outputs.now)) (sym (at_start c.before-2.result c.before-2.ensures)) c.requires.ahead
+
+pub check_parts-requires-clause-place : goal.check_parts-requires-clause-place
+check_parts-requires-clause-place g c = c.requires.place ∙ sym (ap (λ (w : Reached). w.from) c.before-2.ensures)
 
 pub returns-in_err-listed-clause-judged : goal.returns-in_err-listed-clause-judged
 returns-in_err-listed-clause-judged g c =
@@ -93,8 +104,9 @@ returns-in_err-pairs-clause-judged g c =
     let ahead = g.O.Outputs.gives c.args.outputs.now in
     let n = c.args.work.now.meter.lookups in
     let k = c.of_watched.new.meter.lookups in
-    let m = c.check_parts.new.meter.lookups in
+    let m = c.check_parts.new.work.meter.lookups in
     let o = c.args.computation.now.request.now in
+    let b : Ground = record { request = o; triples = c.in_ok-index.index } in
     let files = c.args.computation.now.input.now in
     let cut : Cut = c.in_ok-kept.kept.cut in
     let others : List (List ℕ) = cut.files in
@@ -105,7 +117,7 @@ returns-in_err-pairs-clause-judged g c =
     let e = c.in_err-pairs.field-0.0 in
     let p = err_from_is_err_and c.from_residual-in_err-pairs.result c.from_residual-in_err-pairs.ensures.1 in
     let back = listing old (gives c.expect_count.new.items) next c.in_ok-plan.plan c.max_skips.result c.in_ok-listed.listed skips c.in_ok-listed.ensures.counted c.in_ok-skips.ensures.listed in
-    rw (p.1, p.2) (through_as ahead start (λ outs. Judges next (subject_with (record { request = o; triples = c.in_ok-index.index }) outs) k m (Err e)) (RestJudged old o files n m (Err e)) c.in_err-pairs.ensures.judged
+    rw (p.1, p.2) (through_as ahead start (λ outs. Judges next (subject_with b outs) k m (Err e)) (RestJudged old o files n m (Err e)) (judges_first ahead next b (behind_entries c.before-2.result 0) k m (Err e) (at_start c.before-2.result c.before-2.ensures) c.in_err-pairs.ensures.judged)
     (λ outs j. (let known = known_subject (case_at o others outs 0) c.in_ok-kept.kept.skips c.job.result.now cut c.in_ok-index.index c.job.ensures.same size refl c.in_ok-index.ensures.ok in
     pairs_fault old next o files others outs c.max_skips.result c.in_ok-listed.listed n m c.in_ok-plan.plan skips e c.max_skips.ensures.same c.in_ok-plan.ensures.plan same c.requires.order back
     (subst (λ (ss : List RecordName). Judges next (subject_of (case_at o others outs 0) ss) n m (Err e)) left
@@ -120,8 +132,9 @@ returns-clause-judged g c =
     let ahead = g.O.Outputs.gives c.args.outputs.now in
     let n = c.args.work.now.meter.lookups in
     let k = c.of_watched.new.meter.lookups in
-    let m = c.check_parts.new.meter.lookups in
+    let m = c.check_parts.new.work.meter.lookups in
     let o = c.args.computation.now.request.now in
+    let b : Ground = record { request = o; triples = c.in_ok-index.index } in
     let files = c.args.computation.now.input.now in
     let cut : Cut = c.in_ok-kept.kept.cut in
     let others : List (List ℕ) = cut.files in
@@ -130,7 +143,7 @@ returns-clause-judged g c =
     let skips : List RecordName = c.in_ok-skips.skips.items in
     let left : c.in_ok-kept.kept.skips ≡ skips = ap (λ (w : Choice). w.skips) c.in_ok-kept.ensures.ok ∙ c.deref.ensures.value in
     let back = listing old (gives c.expect_count.new.items) next c.in_ok-plan.plan c.max_skips.result c.in_ok-listed.listed skips c.in_ok-listed.ensures.counted c.in_ok-skips.ensures.listed in
-    through_as ahead start (λ outs. Judges next (subject_with (record { request = o; triples = c.in_ok-index.index }) outs) k m (Ok c.in_ok-pairs.pairs)) (RestJudged old o files n m (Ok (record { skips = c.in_ok-skips.skips; pairs = c.in_ok-pairs.pairs }))) c.in_ok-pairs.ensures.judged
+    through_as ahead start (λ outs. Judges next (subject_with b outs) k m (Ok c.in_ok-pairs.pairs)) (RestJudged old o files n m (Ok (record { skips = c.in_ok-skips.skips; pairs = c.in_ok-pairs.pairs }))) (judges_first ahead next b (behind_entries c.before-2.result 0) k m (Ok c.in_ok-pairs.pairs) (at_start c.before-2.result c.before-2.ensures) c.in_ok-pairs.ensures.judged)
     (λ outs j. (let known = known_subject (case_at o others outs 0) c.in_ok-kept.kept.skips c.job.result.now cut c.in_ok-index.index c.job.ensures.same size refl c.in_ok-index.ensures.ok in
     pairs_fine old next o files others outs c.max_skips.result c.in_ok-listed.listed n m c.in_ok-plan.plan (record { skips = c.in_ok-skips.skips; pairs = c.in_ok-pairs.pairs }) c.max_skips.ensures.same c.in_ok-plan.ensures.plan same c.requires.order back
     (subst (λ (ss : List RecordName). Judges next (subject_of (case_at o others outs 0) ss) n m (Ok c.in_ok-pairs.pairs)) left

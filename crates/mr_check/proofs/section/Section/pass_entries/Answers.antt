@@ -21,5 +21,8 @@ returns-clause-fewer c = omega (arith, ap length c.skip_entries-passed.ensures.i
 pub returns-clause-passed : goal.returns-clause-passed
 returns-clause-passed c all here =
     let is : List Item = items_left c.args.self.now.walker in
-    drop_on c.skip_entries-passed.result c.in_ok-at.at c.args.self.now.at is (items_left c.skip_entries-passed.new.self) all here
-    (c.skip_entries-passed.ensures.items ∙ (entries_dropped is ∙ ap (λ n. drop n is) (sym c.skip_entries-passed.ensures.count))) c.in_ok-at.ensures
+    record {
+      left = drop_on c.skip_entries-passed.result c.in_ok-at.at c.args.self.now.at is (items_left c.skip_entries-passed.new.self) (items_left all) here.left
+          (c.skip_entries-passed.ensures.items ∙ (entries_dropped is ∙ ap (λ n. drop n is) (sym c.skip_entries-passed.ensures.count))) c.in_ok-at.ensures;
+      stop = c.skip_entries-passed.ensures.stop ∙ here.stop;
+    }

@@ -15,4 +15,5 @@ returns-clause-stands c =
           (ap contents c.at-2.ensures.later ∙ (contents_drop b.next c.outputs.result.now ∙ ap (drop b.next) here));
       place = c.at-2.ensures.passed ∙ ap (λ w. w.from) (sym c.at.ensures);
       told = tt;
+      key = λ h. tt;
     }

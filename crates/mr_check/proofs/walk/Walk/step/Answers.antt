@@ -1,4 +1,7 @@
-use Rattle.std.proofs.Common.{ℕ, List, refl, sym, subst}
+use Rattle.std.proofs.Common.{◌≡◌, ◌≤◌, ℕ, List, IfSome, refl, sym, subst}
+use Rattle.mr_verdict.specs.Verdict.{Reached}
+use Rattle.mr_judge.specs.Rows.{row_subject}
+use Rattle.mr_check.proofs.WalkLemmas.{key_after}
 use Rattle.mr_input.specs.Files.{contents}
 use Rattle.mr_judge.specs.Outputs.{Leaves}
 use Rattle.mr_check.proofs.walk.Walk.step.Goals as goal
@@ -17,4 +20,11 @@ returns-in-Ok-clause-stands c h =
     let st = c.args.self.now.judging in
     let t = c.in-Ok.ensures.tested c.step.new.outputs.rest.now (contents c.step.new.outputs.later.now) (refl, refl) in
     let w = subst (λ (l : List (List ℕ)). Leaves st outs t.0 l) (sym t.1.1.0.1) (subst (λ (r : List ℕ). Leaves st outs r (contents c.args.self.now.outputs.later.now)) (sym t.1.1.0.0) c.requires.stands.left) in
-    record { left = (t.1.1.1 outs w).0; place = c.in-Ok.ensures.place; told = c.requires.stands.told }
+    let s = row_subject c.args.given.now.request.now outs in
+    record {
+      left = (t.1.1.1 outs w).0;
+      place = c.in-Ok.ensures.place;
+      told = c.requires.stands.told;
+      key = subst (λ (v : Reached). 1 ≤ v.entry → IfSome c.args.self.now.told (λ x. x.key.now ≡ v.key)) (sym (t.1.1.1 outs w).1.1)
+          (key_after s st c.args.row.now c.args.self.now.told c.requires.stands.key c.requires.key);
+    }

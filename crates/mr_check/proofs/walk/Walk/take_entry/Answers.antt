@@ -22,9 +22,9 @@ returns-clause-taken c h =
     let st : Reached = c.args.self.now.judging in
     let name : Name = c.args.name in
     let row : FoundItem = record { item = Entry name; found = Some (c.in-Some.told.key, c.in-Some-value_of.value) } in
-    let same : c.step.new.self.claims ≡ c.take.new.self = c.step.ensures.claims in
+    let same : c.step_entry.new.self.claims ≡ c.take.new.self = c.step_entry.ensures.claims in
     let off = c.in-Ok-true.ensures.put c.in-Ok-true.field-0-test in
-    let tested = c.step.ensures.tested h in
+    let tested = c.step_entry.ensures.tested h in
     let told : IsTold k c.in-Some.told = subst (λ (o : Option Told). IfSome o (IsTold k)) c.in-Some.is c.requires.stands.told in
     record {
       kept = λ x there. subst (λ (t : Taken). Has (claims_of t) x) (sym same) (off.kept x there);
@@ -32,6 +32,6 @@ returns-clause-taken c h =
       passed = λ holds. (let has = subst (λ (t : Taken). Has (claims_of t) (record { name = name; line = c.in-Some.told.line })) (sym same) off.put in
           let found : IsFound k.triples row = λ n e. (let is : name ≡ n = cc e in
           subst (λ (w : Name). named k.triples w ≡ Some (record { key = c.in-Some.told.key.now; value = c.in-Some-value_of.value; name = w })) is
-          (found_right k (claims_of c.step.new.self.claims) name c.in-Some.told c.in-Some-value_of.value told holds has c.in-Some-value_of.ensures)) in
+          (found_right k (claims_of c.step_entry.new.self.claims) name c.in-Some.told c.in-Some-value_of.value told holds has c.in-Some-value_of.ensures)) in
           (sym (row_tests_are b k.outputs st row found (λ e. cc e)) ∙ tested.0, tested.1 ∙ row_after_is b k.outputs st row found));
     }

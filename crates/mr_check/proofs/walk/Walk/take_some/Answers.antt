@@ -3,7 +3,8 @@ use Rattle.mr_certform.specs.declared.grammar_state.Item.{Item}
 use Rattle.mr_verdict.specs.Steps.{Known}
 use Rattle.mr_check.specs.Claims.{claims_of}
 use Rattle.mr_check.specs.Walk.{known}
-use Rattle.mr_check.proofs.WalkLemmas.{border_room, less_room, going_first, going_next}
+use Rattle.mr_judge.proofs.PartLemmas.{less_room}
+use Rattle.mr_check.proofs.WalkLemmas.{border_room, going_first, going_next}
 use Rattle.mr_check.proofs.walk.Walk.take_some.Goals as goal
 
 pub loop-left-init : goal.loop-left-init

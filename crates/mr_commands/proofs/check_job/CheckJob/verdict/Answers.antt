@@ -25,5 +25,5 @@ answers request files was outputs was_bytes bytes r o b headline good bad =
 pub returns : goal.returns
 returns g c =
     let job = c.args.self.now in
-    answers job.request.now job.input.now (contents c.as_slice-outputs.result.now) (contents c.args.held.now.outputs.items) c.as_slice-certificate.result.now c.args.held.now.certificate.items c.judge_by.result
-    (ap contents c.as_slice-outputs.ensures.value) c.as_slice-certificate.ensures.value c.judge_by.ensures.headline c.judge_by.ensures.yes c.judge_by.ensures.no
+    answers job.request.now job.input.now (contents c.as_slice-outputs.result.now) (contents c.args.held.now.outputs.items) c.as_slice-certificate.result.now c.args.held.now.certificate.items c.judge.result
+    (ap contents c.as_slice-outputs.ensures.value) c.as_slice-certificate.ensures.value c.judge.ensures.headline c.judge.ensures.yes c.judge.ensures.no

@@ -9,9 +9,10 @@ use Rattle.mr_check.specs.Claims.{Division, IsRightWindow}
 use Rattle.mr_check.specs.Joined.{joined}
 use Rattle.mr_check.specs.Walk.{known}
 use Rattle.mr_check.specs.Windows.{IsTested, pairs_in}
+use Rattle.mr_check.specs.declared.windows.Tested.{Tested}
 use Rattle.mr_check.proofs.ClaimLemmas.{claims_right}
 use Rattle.mr_check.proofs.WindowsLemmas.{until_next, pairs_next}
-use Rattle.mr_check.proofs.windows.sum_pairs.Goals as goal
+use Rattle.mr_check.proofs.windows.sum_windows.Goals as goal
 
 pub loop-w-preserved : goal.loop-w-preserved
 loop-w-preserved c =
@@ -20,10 +21,12 @@ loop-w-preserved c =
     let w = c.loop-w.w in
     let inv = c.loop-w.invariant in
     let less : w < length ws = omega (arith, c.loop-w-test.true, c.requires.all) in
-    let told : IsTested given c.args.walked.now w c.in-Some.pairs = subst (λ (o : Option ℕ). IfSome o (IsTested given c.args.walked.now w)) c.in-Some.is (c.requires.tested w None c.loop-w-test.true) in
+    let told : IsTested given c.args.walked.now w c.in-Some.window = subst (λ (o : Option Tested). IfSome o (IsTested given c.args.walked.now w)) c.in-Some.is (c.requires.tested w None c.loop-w-test.true) in
     record {
       sum = omega (arith, c.in-Some-add.ensures, inv.sum, told.pairs, pairs_next (pairs_in given) ws w less);
-      right = λ k d before. until_next (λ i. IsRightWindow (known given).triples (joined (known given).outputs) (get_or c.args.walked.now k d).claims i) w (inv.right k d before) (told.right k d before);
+      few = omega (arith, inv.few, c.min-right.ensures);
+      right = λ k d before. until_next (λ i. IsRightWindow (known given).triples (joined (known given).outputs) (get_or c.args.walked.now k d).claims i) w
+          (inv.right k d (omega (arith, before, c.min-right.ensures))) (told.right k d (omega (arith, before, c.min-right.ensures)) (omega (arith, before, inv.few, c.min-right.ensures)));
     }
 
 pub returns-clause-pairs : goal.returns-clause-pairs
@@ -36,7 +39,7 @@ returns-clause-pairs c =
     ∙ ap length (windows_all given.request.now.job cut given.kept.now.skips ws (omega (arith, c.size-size.ensures.within.0, c.size-size.ensures.same, ap (λ (k : Cut). k.size) c.plan.ensures)) c.requires.by.tiles)))
 
 pub returns-clause-right : goal.returns-clause-right
-returns-clause-right c k d before =
+returns-clause-right c k d before within =
     let given = c.args.given.now in
     claims_right (known given).triples (joined (known given).outputs) (get_or c.args.walked.now k d).claims
-    (λ i less. c.loop-w.invariant.right k d before i (omega (arith, less, ap (λ (by : Division). length by.list) (c.requires.by.by k d before), c.loop-w-test.false, c.requires.all)))
+    (λ i less. c.loop-w.invariant.right k d before i (omega (arith, less, ap (λ (by : Division). length by.list) (c.requires.by.by k d within), c.loop-w-test.false, c.requires.all)))
