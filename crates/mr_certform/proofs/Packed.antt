@@ -1,6 +1,7 @@
--- Names in eight bytes, and the split of a record by the first records of all splits.
+-- Names as numbers, and the split of a record by the first records of all splits.
 use Rattle.std.proofs.Common.{◌≡◌, ℕ, zero, suc, ◌+◌, ◌-◌, ◌*◌, ◌/◌, ◌%◌, ◌^◌, ◌<◌, ◌≤◌, List, [], ◌∷◌, length, get_or, drop, refl, ap, sym, ◌∙◌, leb, arith}
 use Rattle.std.proofs.lemmas.Bool.{le-leb, lt-leb}
+use Rattle.std.proofs.Math.Nat.{mul_comm}
 use Rattle.std.proofs.lemmas.Nat.{div-mul-add, mod-mul-add}
 use Rattle.std.specs.List.{prefix_len}
 use Rattle.std.specs.List.Sorted.{IsNonDecreasing}
@@ -33,18 +34,20 @@ split_covers firsts n span rise within split first end = λ r low high. (
 -- ---- names
 
 -- of a span that has its record's split
-pub name_of_span : (firsts : List ℕ) (p : ℕ) (span : Span) (n : Name) → span.split ≡ split_under firsts (p / 2 ^ 32) → span.first ≡ first_under firsts (split_under firsts (p / 2 ^ 32))
-    → n ≡ record { split = span.split; rec = p / 2 ^ 32 - span.first; place = p % 2 ^ 32 } → n ≡ name_under firsts p
+pub name_of_span : (bits : ℕ) (firsts : List ℕ) (p : ℕ) (span : Span) (n : Name) → span.split ≡ split_under firsts (p / 2 ^ bits)
+    → span.first ≡ first_under firsts (split_under firsts (p / 2 ^ bits))
+    → n ≡ record { split = span.split; rec = p / 2 ^ bits - span.first; place = p % 2 ^ bits } → n ≡ name_under bits firsts p
 unfolding name_under
-name_of_span firsts p span n split first is = is ∙ (λ i. record { split = split i; rec = p / 2 ^ 32 - first i; place = p % 2 ^ 32 })
+name_of_span bits firsts p span n split first is = is ∙ (λ i. record { split = split i; rec = p / 2 ^ bits - first i; place = p % 2 ^ bits })
 
 pub packed_is_named : PackedIsNamed
 unfolding name_under
-packed_is_named firsts s rec place rise within small before =
+packed_is_named bits firsts s rec place rise within small before =
+    let unit : ℕ = 2 ^ bits in
     let number : ℕ = first_under firsts s + rec in
-    let whole : 2 ^ 32 * number + place ≡ number * 2 ^ 32 + place = omega arith in
-    let div : (2 ^ 32 * number + place) / 2 ^ 32 ≡ number = ap (λ k. k / 2 ^ 32) whole ∙ div-mul-add number (2 ^ 32) place small in
-    let low : (2 ^ 32 * number + place) % 2 ^ 32 ≡ place = ap (λ k. k % 2 ^ 32) whole ∙ mod-mul-add number (2 ^ 32) place small in
+    let whole : unit * number + place ≡ number * unit + place = ap (λ k. k + place) (mul_comm unit number) in
+    let div : (unit * number + place) / unit ≡ number = ap (λ k. k / unit) whole ∙ div-mul-add number unit place small in
+    let low : (unit * number + place) % unit ≡ place = ap (λ k. k % unit) whole ∙ mod-mul-add number unit place small in
     let back : s + 1 - 1 ≡ s = omega arith in
     let split : split_under firsts number ≡ s = split_begun firsts (s + 1) number rise (omega arith) (λ _. omega (arith, ap (first_under firsts) back)) before ∙ back in
     let left : first_under firsts s + rec - first_under firsts s ≡ rec = omega arith in
@@ -52,12 +55,15 @@ packed_is_named firsts s rec place rise within small before =
     ∙ (λ i. record { split = split i; rec = number - first_under firsts (split i); place = place })
     ∙ (λ i. record { split = s; rec = left i; place = place })
 
-pub name_held : (firsts : List ℕ) (packed : List ℕ) (plain : List Name) (i : ℕ) (d : Name) → i < length packed → get_or (names_held firsts packed plain) i d ≡ name_under firsts (get_or packed i 0)
-name_held firsts [] plain i d within = absurd (omega arith)
-name_held firsts (p ∷ ps) plain zero d within = refl
-name_held firsts (p ∷ ps) plain (suc i) d within = name_held firsts ps plain i d (omega arith)
+pub name_held : (bits : ℕ) (firsts packed : List ℕ) (plain : List Name) (i : ℕ) (d : Name) → i < length packed
+    → get_or (names_held bits firsts packed plain) i d ≡ name_under bits firsts (get_or packed i 0)
+name_held bits firsts [] plain i d within = absurd (omega arith)
+name_held bits firsts (p ∷ ps) plain zero d within = refl
+name_held bits firsts (p ∷ ps) plain (suc i) d within = name_held bits firsts ps plain i d (omega arith)
 
-pub drop_held : (firsts : List ℕ) (n : ℕ) (packed : List ℕ) (plain : List Name) → drop n (names_held firsts packed plain) ≡ names_held firsts (drop n packed) (drop (n - length packed) plain)
-drop_held firsts zero packed plain = ap (λ k. names_held firsts packed (drop k plain)) (let e : 0 ≡ 0 - length packed = omega arith in e)
-drop_held firsts (suc n) [] plain = ap (λ k. drop k plain) (let e : suc n ≡ suc n - 0 = omega arith in e)
-drop_held firsts (suc n) (p ∷ ps) plain = drop_held firsts n ps plain ∙ ap (λ k. names_held firsts (drop n ps) (drop k plain)) (let e : n - length ps ≡ suc n - suc (length ps) = omega arith in e)
+pub drop_held : (bits : ℕ) (firsts : List ℕ) (n : ℕ) (packed : List ℕ) (plain : List Name)
+    → drop n (names_held bits firsts packed plain) ≡ names_held bits firsts (drop n packed) (drop (n - length packed) plain)
+drop_held bits firsts zero packed plain = ap (λ k. names_held bits firsts packed (drop k plain)) (let e : 0 ≡ 0 - length packed = omega arith in e)
+drop_held bits firsts (suc n) [] plain = ap (λ k. drop k plain) (let e : suc n ≡ suc n - 0 = omega arith in e)
+drop_held bits firsts (suc n) (p ∷ ps) plain =
+    drop_held bits firsts n ps plain ∙ ap (λ k. names_held bits firsts (drop n ps) (drop k plain)) (let e : n - length ps ≡ suc n - suc (length ps) = omega arith in e)

@@ -44,7 +44,7 @@ pub fn chunks_law()
     ensures groups { CutByCounts (List Name) }
 {}
 
-/// A packed name is told again, if its record is before the first one of the next split.
+/// A packed name is unpacked again, if its record is before the first one of the next split.
 pub fn packed_law()
     ensures { PackedIsNamed }
 {}

@@ -1,16 +1,18 @@
-//! The names of a certificate, in eight bytes each where they are packed, else in twelve.
+//! The names of a certificate, in four bytes each where they are packed, else in twelve.
 //!
 //!     firsts   [ 0     3   3   7 ]        the first record of each split, counted over all splits
 //!     packed   [ 4 | 1   0 | 2 .. ]       record | place: record 4 is record 1 of split 2
 //!     plain    [ n n n .. ]               the names after those, as they are
 //!
-//! The sequential execution packs its names; names that were read or sent are plain. A name's split
-//! is the last one that begins at or before its record. `Names` keeps the split of the last name:
-//! its records lie from `first` to before `end`, and none of them is searched for.
+//! The sequential execution packs its names; names that were read or sent are plain. All packed
+//! names have as many bits for the place. A name's split is the last one that begins at or before
+//! its record. `Names` keeps the split of the last name: its records lie from `first` to before
+//! `end`, and none of them is searched for.
 //! Cost: a step for a name of the same split as the one before, else a binary search of the splits.
 ghost use Rattle.std.specs.Prelude.{◌≡◌, ◌<◌, ◌≤◌, ◌^◌, ◌/◌, ◌%◌, ◌-◌, ◌++◌, ◌∷◌, [], OnOk};
 ghost use Rattle.std.specs.Prelude.{MatchOption, length, map, take, drop, slice_index_or};
-ghost use Rattle.mr_certform.specs.Packed.{AreFirsts, Covers, split_under, first_under, name_under};
+ghost use Rattle.mr_certform.specs.Packed.{AreFirsts, CanPack, Covers, split_under, first_under};
+ghost use Rattle.mr_certform.specs.Packed.{name_under};
 ghost use Rattle.mr_certform.specs.Places.{first_name};
 
 use mr_bytes::Name;
@@ -29,20 +31,22 @@ pub(crate) struct Span {
 #[derive(Drop)]
 pub struct NameColumn {
     firsts: Vec<u32>,
-    packed: Vec<u64>,
+    /// How many bits of a packed name are its place.
+    bits: u32,
+    packed: Vec<u32>,
     plain: Vec<Name>,
 }
 
 impl Model for NameColumn {
     ghost use Rattle.std.specs.Prelude.{List};
     ghost use Rattle.mr_bytes.specs.declared.Name.{Name};
-    ghost use Rattle.mr_certform.specs.Packed.{AreFirsts, names_held};
+    ghost use Rattle.mr_certform.specs.Packed.{CanPack, names_held};
 
     ghost Value = { List Name };
 
-    ghost view = { λ n. names_held n.firsts.items n.packed.items n.plain.items };
+    ghost view = { λ n. names_held n.bits n.firsts.items n.packed.items n.plain.items };
 
-    ghost invariant = { λ n. AreFirsts n.firsts.items };
+    ghost invariant = { λ n. CanPack n.firsts.items n.bits };
 }
 
 impl NameColumn {
@@ -52,18 +56,21 @@ impl NameColumn {
     {
         NameColumn {
             firsts: Vec::new(alloc),
+            bits: 0,
             packed: Vec::new(alloc),
             plain: names,
         }
     }
 
-    /// The names that these numbers stand for, by the first record of each split.
-    pub fn packed(alloc: Global, packed: Vec<u64>, firsts: Vec<u32>) -> NameColumn
-        requires { AreFirsts firsts.items }
-        ensures { result ≡ map (name_under firsts.items) packed.items }
+    /// The names that these numbers mean: their low bits are places, and those above them numbers
+    /// of records, by the first record of each split.
+    pub fn packed(alloc: Global, packed: Vec<u32>, bits: u32, firsts: Vec<u32>) -> NameColumn
+        requires { CanPack firsts.items bits }
+        ensures { result ≡ map (name_under bits firsts.items) packed.items }
     {
         NameColumn {
             firsts,
+            bits,
             packed,
             plain: Vec::new(alloc),
         }
@@ -98,6 +105,7 @@ impl NameColumn {
         Names {
             firsts: &self.firsts,
             span: Span::none(),
+            bits: self.bits,
             packed: &self.packed,
             plain: &self.plain,
         }
@@ -109,21 +117,22 @@ impl NameColumn {
 pub struct Names<'a> {
     firsts: &'a [u32],
     span: Span,
-    packed: &'a [u64],
+    bits: u32,
+    packed: &'a [u32],
     plain: &'a [Name],
 }
 
 impl<'a> Model for Names<'a> {
     ghost use Rattle.std.specs.Prelude.{List};
     ghost use Rattle.mr_bytes.specs.declared.Name.{Name};
-    ghost use Rattle.mr_certform.specs.Packed.{AreFirsts, Covers, names_held};
+    ghost use Rattle.mr_certform.specs.Packed.{CanPack, Covers, names_held};
 
     ghost Value = { List Name };
 
-    ghost view = { λ n. names_held n.firsts.now n.packed.now n.plain.now };
+    ghost view = { λ n. names_held n.bits n.firsts.now n.packed.now n.plain.now };
 
     ghost invariant = { λ n. record {
-      firsts : AreFirsts n.firsts.now;
+      packed : CanPack n.firsts.now n.bits;
       covers : Covers n.firsts.now n.span;
     } };
 }
@@ -136,6 +145,7 @@ impl<'a> Names<'a> {
         Names {
             firsts: &[],
             span: Span::none(),
+            bits: 0,
             packed: &[],
             plain: names,
         }
@@ -155,7 +165,8 @@ impl<'a> Names<'a> {
     {
         if i < self.packed.len() {
             let packed = self.packed[i];
-            unpacked(packed, span_with(self.firsts, self.span, record_of(packed)))
+            let record = record_of(packed, self.bits);
+            unpacked(packed, self.bits, span_with(self.firsts, self.span, record))
         } else {
             self.plain[i - self.packed.len()]
         }
@@ -172,12 +183,14 @@ impl<'a> Names<'a> {
         let front = Names {
             firsts: self.firsts,
             span: self.span,
+            bits: self.bits,
             packed,
             plain,
         };
         let back = Names {
             firsts: self.firsts,
             span: self.span,
+            bits: self.bits,
             packed: more_packed,
             plain: more_plain,
         };
@@ -190,10 +203,11 @@ impl<'a> Names<'a> {
         ensures { MatchOption result ((self.old ≡ []) × (self.new ≡ [])) (λ n. self.old ≡ n ∷ self.new) }
     {
         if let Some((packed, rest)) = self.packed.split_first() {
-            let span = span_with(self.firsts, self.span, record_of(*packed));
+            let record = record_of(*packed, self.bits);
+            let span = span_with(self.firsts, self.span, record);
             self.packed = rest;
             self.span = span;
-            return Some(unpacked(*packed, span));
+            return Some(unpacked(*packed, self.bits, span));
         }
         let (name, rest) = self.plain.split_first()?;
         self.plain = rest;
@@ -214,24 +228,43 @@ impl Span {
     }
 }
 
-fn record_of(packed: u64) -> u32
-    ensures { result ≡ packed / 2 ^ 32 }
+fn record_of(packed: u32, bits: u32) -> u32
+    requires { bits ≤ 32 }
+    ensures { result ≡ packed / 2 ^ bits }
 {
-    (packed / 4_294_967_296) as u32
+    (u64::from(packed) >> bits) as u32
 }
 
-/// The name that the number stands for, whose record's split is that of the span.
-fn unpacked(packed: u64, span: Span) -> Name
+/// The name that the number means, whose record's split is that of the span.
+fn unpacked(packed: u32, bits: u32, span: Span) -> Name
+    requires { bits ≤ 32 }
     ensures { result ≡ record {
       split = span.split;
-      rec = packed / 2 ^ 32 - span.first;
-      place = packed % 2 ^ 32;
+      rec = packed / 2 ^ bits - span.first;
+      place = packed % 2 ^ bits;
     } }
 {
     Name {
         split: span.split,
-        rec: record_of(packed).saturating_sub(span.first),
-        place: (packed % 4_294_967_296) as u32,
+        rec: record_of(packed, bits).saturating_sub(span.first),
+        place: (u64::from(packed) % (1u64 << bits)) as u32,
+    }
+}
+
+/// The name of the pair at this place of the record of this number, counted over all splits.
+pub fn name_at(firsts: &[u32], number: u32, place: u32) -> Name
+    requires { AreFirsts firsts.now }
+    ensures { result ≡ record {
+      split = split_under firsts.now number;
+      rec = number - first_under firsts.now (split_under firsts.now number);
+      place = place;
+    } }
+{
+    let span = span_of(firsts, number);
+    Name {
+        split: span.split,
+        rec: number.saturating_sub(span.first),
+        place,
     }
 }
 

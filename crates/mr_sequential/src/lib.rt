@@ -1,5 +1,5 @@
 //! The sequential execution of a job. It stores no names while it reads, but one count for each
-//! record, and recomputes the names from the counts (`groups.rt`). Keys get numbers as they come;
+//! record, and recomputes the names from the counts (`names.rt`). Keys get numbers as they come;
 //! they are sorted once, and a counting sort puts the names in order of their keys.
 #![tactic(auto)]
 
@@ -8,6 +8,7 @@ ghost use Rattle.mr_sequential.specs.Laws.{OutputsAreInKeyOrder};
 ghost use Rattle.mr_sequential.specs.Skips.{GoodSkips};
 
 mod groups;
+mod names;
 mod outputs;
 mod sequence;
 mod source;

@@ -9,10 +9,10 @@ pub returns-then-i-self : goal.returns-then-i-self
 returns-then-i-self c =
     let n = c.self.inside in
     let firsts = n.firsts.now in
-    let number = c.record_of.ensures in
-    name_of_span firsts (get_or n.packed.now c.args.i 0) c.span_with.result c.unpacked.result
+    let number = c.record_of-record.ensures in
+    name_of_span n.bits firsts (get_or n.packed.now c.args.i 0) c.span_with.result c.unpacked.result
     (c.span_with.ensures.split ∙ ap (split_under firsts) number)
     (c.span_with.ensures.first ∙ ap (λ k. first_under firsts (split_under firsts k)) number)
     c.unpacked.ensures
-    ∙ sym (name_held firsts n.packed.now n.plain.now c.args.i first_name c.if-i-self.true)
+    ∙ sym (name_held n.bits firsts n.packed.now n.plain.now c.args.i first_name c.if-i-self.true)
     ∙ ap (λ (l : List Name). get_or l c.args.i first_name) c.self.view_is

@@ -8,10 +8,10 @@ pub returns-in-Some : goal.returns-in-Some
 returns-in-Some c =
     let n = c.self.inside in
     let firsts = n.firsts.now in
-    let number = c.record_of.ensures in
-    let name = name_of_span firsts c.in-Some.packed.now c.span_with-span.result c.unpacked.result
+    let number = c.record_of-record.ensures in
+    let name = name_of_span n.bits firsts c.in-Some.packed.now c.span_with-span.result c.unpacked.result
     (c.span_with-span.ensures.split ∙ ap (split_under firsts) number)
     (c.span_with-span.ensures.first ∙ ap (λ k. first_under firsts (split_under firsts k)) number)
     c.unpacked.ensures in
-    let rest : List Name = names_held firsts c.in-Some.rest.now n.plain.now in
-    sym c.self.view_is ∙ ap (λ l. names_held firsts l n.plain.now) c.in-Some.ensures.cases.0 ∙ ap (λ m. m ∷ rest) (sym name)
+    let rest : List Name = names_held n.bits firsts c.in-Some.rest.now n.plain.now in
+    sym c.self.view_is ∙ ap (λ l. names_held n.bits firsts l n.plain.now) c.in-Some.ensures.cases.0 ∙ ap (λ m. m ∷ rest) (sym name)
