@@ -7,7 +7,7 @@ ghost use Rattle.mr_sequential.specs.Names.{AreEmitted, triples_of};
 
 use mr_bytes::{Phase, Progress, Throttle};
 use mr_group::KeyColumn;
-use mr_jobs::{Job, Mapper};
+use mr_jobs::{Emitter, Job, Mapper};
 use mr_splits::{KeptPlan, RecordAt};
 use std::alloc::{AllocError, Global};
 
@@ -17,6 +17,19 @@ use std::alloc::{AllocError, Global};
 pub(crate) struct Emitted {
     pub keys: KeyColumn,
     pub counts: Vec<u32>,
+}
+
+/// Appends the keys of these pairs. A call, so that the loop keeps its values in registers.
+#[inline(never)]
+fn push_keys(alloc: Global, pairs: Emitter<'_>, keys: &mut KeyColumn) -> Result<(), AllocError>
+    requires { length keys.old + length pairs < 2 ^ 32 }
+    ensures { OnOk result (keys.new ≡ keys.old ++ map (λ e. e.0) pairs.entry) }
+{
+    let mut left = pairs;
+    while let Some((key, _)) = left.next() {
+        keys.push(alloc, key)?;
+    }
+    Ok(())
 }
 
 fn gather_record(
@@ -36,10 +49,8 @@ fn gather_record(
         (emissions mapper.old.job line.entry.file line.entry.start line.entry.bytes.now) ∷ []) }
 {
     let before = emitted.keys.len();
-    let mut emitter = mapper.emit(line.file, line.start, line.bytes)?.emitter();
-    while let Some((key, _)) = emitter.next() {
-        emitted.keys.push(alloc, key)?;
-    }
+    let pairs = mapper.emit(line.file, line.start, line.bytes)?;
+    push_keys(alloc, pairs.emitter(), &mut emitted.keys)?;
     let count = emitted.keys.len() - before;
     emitted.counts.push(count as u32)?;
     Ok(())
