@@ -1,5 +1,5 @@
 -- Names as numbers, and the split of a record by the first records of all splits.
-use Rattle.std.proofs.Common.{◌≡◌, ℕ, zero, suc, ◌+◌, ◌-◌, ◌*◌, ◌/◌, ◌%◌, ◌^◌, ◌<◌, ◌≤◌, List, [], ◌∷◌, length, get_or, drop, refl, ap, sym, ◌∙◌, leb, arith}
+use Rattle.std.proofs.Common.{◌≡◌, ◌++◌, map, ℕ, zero, suc, ◌+◌, ◌-◌, ◌*◌, ◌/◌, ◌%◌, ◌^◌, ◌<◌, ◌≤◌, List, [], ◌∷◌, length, get_or, drop, take, refl, ap, sym, ◌∙◌, leb, arith}
 use Rattle.std.proofs.lemmas.Bool.{le-leb, lt-leb}
 use Rattle.std.proofs.Math.Nat.{mul_comm}
 use Rattle.std.proofs.lemmas.Nat.{div-mul-add, mod-mul-add}
@@ -55,15 +55,68 @@ packed_is_named bits firsts s rec place rise within small before =
     ∙ (λ i. record { split = split i; rec = number - first_under firsts (split i); place = place })
     ∙ (λ i. record { split = s; rec = left i; place = place })
 
-pub name_held : (bits : ℕ) (firsts packed : List ℕ) (plain : List Name) (i : ℕ) (d : Name) → i < length packed
-    → get_or (names_held bits firsts packed plain) i d ≡ name_under bits firsts (get_or packed i 0)
-name_held bits firsts [] plain i d within = absurd (omega arith)
-name_held bits firsts (p ∷ ps) plain zero d within = refl
-name_held bits firsts (p ∷ ps) plain (suc i) d within = name_held bits firsts ps plain i d (omega arith)
+pub short-held : (bits : ℕ) (firsts short long : List ℕ) (plain : List Name) (i : ℕ) (d : Name) → i < length short
+    → get_or (names_held bits firsts short long plain) i d ≡ name_under bits firsts (get_or short i 0)
+short-held bits firsts [] long plain i d within = absurd (omega arith)
+short-held bits firsts (p ∷ ps) long plain zero d within = refl
+short-held bits firsts (p ∷ ps) long plain (suc i) d within = short-held bits firsts ps long plain i d (omega arith)
 
-pub drop_held : (bits : ℕ) (firsts : List ℕ) (n : ℕ) (packed : List ℕ) (plain : List Name)
-    → drop n (names_held bits firsts packed plain) ≡ names_held bits firsts (drop n packed) (drop (n - length packed) plain)
-drop_held bits firsts zero packed plain = ap (λ k. names_held bits firsts packed (drop k plain)) (let e : 0 ≡ 0 - length packed = omega arith in e)
-drop_held bits firsts (suc n) [] plain = ap (λ k. drop k plain) (let e : suc n ≡ suc n - 0 = omega arith in e)
-drop_held bits firsts (suc n) (p ∷ ps) plain =
-    drop_held bits firsts n ps plain ∙ ap (λ k. names_held bits firsts (drop n ps) (drop k plain)) (let e : n - length ps ≡ suc n - suc (length ps) = omega arith in e)
+-- a name behind the short ones
+pub behind-held : (bits : ℕ) (firsts short long : List ℕ) (plain : List Name) (i j : ℕ) (d : Name) → i ≡ length short + j
+    → get_or (names_held bits firsts short long plain) i d ≡ get_or (map (name_under 32 firsts) long ++ plain) j d
+behind-held bits firsts [] long plain i j d is = ap (λ k. get_or (map (name_under 32 firsts) long ++ plain) k d) (let e : i ≡ j = omega (arith, is) in e)
+behind-held bits firsts (p ∷ ps) long plain zero j d is = absurd (omega (arith, is))
+behind-held bits firsts (p ∷ ps) long plain (suc i) j d is = behind-held bits firsts ps long plain i j d (omega (arith, is))
+
+pub long-held : (firsts long : List ℕ) (plain : List Name) (i : ℕ) (d : Name) → i < length long
+    → get_or (map (name_under 32 firsts) long ++ plain) i d ≡ name_under 32 firsts (get_or long i 0)
+long-held firsts [] plain i d within = absurd (omega arith)
+long-held firsts (p ∷ ps) plain zero d within = refl
+long-held firsts (p ∷ ps) plain (suc i) d within = long-held firsts ps plain i d (omega arith)
+
+pub plain-held : (firsts long : List ℕ) (plain : List Name) (i j : ℕ) (d : Name) → i ≡ length long + j
+    → get_or (map (name_under 32 firsts) long ++ plain) i d ≡ get_or plain j d
+plain-held firsts [] plain i j d is = ap (λ k. get_or plain k d) (let e : i ≡ j = omega (arith, is) in e)
+plain-held firsts (p ∷ ps) plain zero j d is = absurd (omega (arith, is))
+plain-held firsts (p ∷ ps) plain (suc i) j d is = plain-held firsts ps plain i j d (omega (arith, is))
+
+drop-long : (firsts : List ℕ) (n : ℕ) (long : List ℕ) (plain : List Name)
+    → drop n (map (name_under 32 firsts) long ++ plain) ≡ map (name_under 32 firsts) (drop n long) ++ drop (n - length long) plain
+drop-long firsts zero long plain = ap (λ k. map (name_under 32 firsts) long ++ drop k plain) (let e : 0 ≡ 0 - length long = omega arith in e)
+drop-long firsts (suc n) [] plain = ap (λ k. drop k plain) (let e : suc n ≡ suc n - 0 = omega arith in e)
+drop-long firsts (suc n) (p ∷ ps) plain =
+    drop-long firsts n ps plain ∙ ap (λ k. map (name_under 32 firsts) (drop n ps) ++ drop k plain) (let e : n - length ps ≡ suc n - suc (length ps) = omega arith in e)
+
+pub drop-held : (bits : ℕ) (firsts : List ℕ) (n : ℕ) (short long : List ℕ) (plain : List Name)
+    → drop n (names_held bits firsts short long plain)
+    ≡ names_held bits firsts (drop n short) (drop (n - length short) long) (drop (n - length short - length long) plain)
+drop-held bits firsts zero short long plain =
+    ap (λ k. names_held bits firsts short long (drop k plain)) (let f : 0 ≡ 0 - length long = omega arith in f)
+    ∙ ap (λ k. names_held bits firsts short (drop k long) (drop (k - length long) plain)) (let e : 0 ≡ 0 - length short = omega arith in e)
+drop-held bits firsts (suc n) [] long plain =
+    drop-long firsts (suc n) long plain
+    ∙ ap (λ k. map (name_under 32 firsts) (drop k long) ++ drop (k - length long) plain) (let e : suc n ≡ suc n - 0 = omega arith in e)
+drop-held bits firsts (suc n) (p ∷ ps) long plain =
+    drop-held bits firsts n ps long plain
+    ∙ ap (λ k. names_held bits firsts (drop n ps) (drop k long) (drop (k - length long) plain)) (let e : n - length ps ≡ suc n - suc (length ps) = omega arith in e)
+
+take-long : (firsts : List ℕ) (n : ℕ) (long : List ℕ) (plain : List Name)
+    → take n (map (name_under 32 firsts) long ++ plain) ≡ map (name_under 32 firsts) (take n long) ++ take (n - length long) plain
+take-long firsts zero long plain = ap (λ k. take k plain) (let e : 0 ≡ 0 - length long = omega arith in e)
+take-long firsts (suc n) [] plain = ap (λ k. take k plain) (let e : suc n ≡ suc n - 0 = omega arith in e)
+take-long firsts (suc n) (p ∷ ps) plain =
+    ap (λ l. name_under 32 firsts p ∷ l)
+    (take-long firsts n ps plain ∙ ap (λ k. map (name_under 32 firsts) (take n ps) ++ take k plain) (let e : n - length ps ≡ suc n - suc (length ps) = omega arith in e))
+
+pub take-held : (bits : ℕ) (firsts : List ℕ) (n : ℕ) (short long : List ℕ) (plain : List Name)
+    → take n (names_held bits firsts short long plain)
+    ≡ names_held bits firsts (take n short) (take (n - length short) long) (take (n - length short - length long) plain)
+take-held bits firsts zero short long plain =
+    ap (λ k. take k (names_held bits firsts [] long plain)) (let e : 0 ≡ 0 - length short = omega arith in e) ∙ take-long firsts (0 - length short) long plain
+take-held bits firsts (suc n) [] long plain =
+    take-long firsts (suc n) long plain
+    ∙ ap (λ k. map (name_under 32 firsts) (take k long) ++ take (k - length long) plain) (let e : suc n ≡ suc n - 0 = omega arith in e)
+take-held bits firsts (suc n) (p ∷ ps) long plain =
+    ap (λ l. name_under bits firsts p ∷ l)
+    (take-held bits firsts n ps long plain
+    ∙ ap (λ k. names_held bits firsts (take n ps) (take k long) (take (k - length long) plain)) (let e : n - length ps ≡ suc n - suc (length ps) = omega arith in e))

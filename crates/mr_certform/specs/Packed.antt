@@ -26,9 +26,9 @@ name_under bits firsts p = record {
   place = p % 2 ^ bits;
 }
 
--- packed names, and behind them names as they are
-abbrev pub names_held : ℕ → List ℕ → List ℕ → List Name → List Name
-names_held bits firsts packed plain = map (name_under bits firsts) packed ++ plain
+-- packed names of so many bits for the place, then such of 32, then names as they are
+abbrev pub names_held : ℕ → List ℕ → List ℕ → List ℕ → List Name → List Name
+names_held bits firsts short long plain = map (name_under bits firsts) short ++ map (name_under 32 firsts) long ++ plain
 
 -- the numbers of splits' first records, and of bits for a place
 pub record CanPack (firsts : List ℕ) (bits : ℕ) : Type 0 where

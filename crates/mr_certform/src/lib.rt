@@ -31,7 +31,7 @@ pub use crate::grammar_state::{GrammarState, Item, Malformed};
 pub use crate::laws::{
     certificate_law, chunks_law, item_law, items_law, packed_law, pieces_law, text_law,
 };
-pub use crate::names::{NameColumn, Names, name_at};
+pub use crate::names::{NameColumn, Names};
 pub use crate::piecewise::{partition_size_hint, write_header, write_partition};
 pub use crate::reading::{ReadFault, read};
 pub use crate::stream::{StreamFault, StreamWalker};

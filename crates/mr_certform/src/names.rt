@@ -1,10 +1,11 @@
-//! The names of a certificate, in four bytes each where they are packed, else in twelve.
+//! The names of a certificate: packed in four bytes each, or in eight, or as they are, in twelve.
 //!
 //!     firsts   [ 0     3   3   7 ]        the first record of each split, counted over all splits
-//!     packed   [ 4 | 1   0 | 2 .. ]       record | place: record 4 is record 1 of split 2
+//!     short    [ 4 | 1   0 | 2 .. ]       record | place: record 4 is record 1 of split 2
+//!     long     [ 5 | 0 .. ]               the names after those, with 32 bits for the place
 //!     plain    [ n n n .. ]               the names after those, as they are
 //!
-//! The sequential execution packs its names; names that were read or sent are plain. All packed
+//! The sequential execution packs its names; names that were read or sent are plain. All short
 //! names have as many bits for the place. A name's split is the last one that begins at or before
 //! its record. `Names` keeps the split of the last name: its records lie from `first` to before
 //! `end`, and none of them is searched for.
@@ -27,13 +28,14 @@ pub(crate) struct Span {
     end: u32,
 }
 
-/// Names, in order: packed ones, then plain ones.
+/// Names, in order: short ones, then long ones, then plain ones.
 #[derive(Drop)]
 pub struct NameColumn {
     firsts: Vec<u32>,
-    /// How many bits of a packed name are its place.
+    /// How many bits of a short name are its place.
     bits: u32,
-    packed: Vec<u32>,
+    short: Vec<u32>,
+    long: Vec<u64>,
     plain: Vec<Name>,
 }
 
@@ -44,7 +46,7 @@ impl Model for NameColumn {
 
     ghost Value = { List Name };
 
-    ghost view = { λ n. names_held n.bits n.firsts.items n.packed.items n.plain.items };
+    ghost view = { λ n. names_held n.bits n.firsts.items n.short.items n.long.items n.plain.items };
 
     ghost invariant = { λ n. CanPack n.firsts.items n.bits };
 }
@@ -57,21 +59,37 @@ impl NameColumn {
         NameColumn {
             firsts: Vec::new(alloc),
             bits: 0,
-            packed: Vec::new(alloc),
+            short: Vec::new(alloc),
+            long: Vec::new(alloc),
             plain: names,
         }
     }
 
     /// The names that these numbers mean: their low bits are places, and those above them numbers
     /// of records, by the first record of each split.
-    pub fn packed(alloc: Global, packed: Vec<u32>, bits: u32, firsts: Vec<u32>) -> NameColumn
+    pub fn short(alloc: Global, short: Vec<u32>, bits: u32, firsts: Vec<u32>) -> NameColumn
         requires { CanPack firsts.items bits }
-        ensures { result ≡ map (name_under bits firsts.items) packed.items }
+        ensures { result ≡ map (name_under bits firsts.items) short.items }
     {
         NameColumn {
             firsts,
             bits,
-            packed,
+            short,
+            long: Vec::new(alloc),
+            plain: Vec::new(alloc),
+        }
+    }
+
+    /// The same with 32 bits for the place.
+    pub fn long(alloc: Global, long: Vec<u64>, firsts: Vec<u32>) -> NameColumn
+        requires { AreFirsts firsts.items }
+        ensures { result ≡ map (name_under 32 firsts.items) long.items }
+    {
+        NameColumn {
+            firsts,
+            bits: 0,
+            short: Vec::new(alloc),
+            long,
             plain: Vec::new(alloc),
         }
     }
@@ -95,7 +113,7 @@ impl NameColumn {
     pub fn len(&self) -> usize
         ensures { result ≡ length self.now }
     {
-        self.packed.len() + self.plain.len()
+        self.names().len()
     }
 
     /// The names, to be read.
@@ -106,7 +124,8 @@ impl NameColumn {
             firsts: &self.firsts,
             span: Span::none(),
             bits: self.bits,
-            packed: &self.packed,
+            short: &self.short,
+            long: &self.long,
             plain: &self.plain,
         }
     }
@@ -118,7 +137,8 @@ pub struct Names<'a> {
     firsts: &'a [u32],
     span: Span,
     bits: u32,
-    packed: &'a [u32],
+    short: &'a [u32],
+    long: &'a [u64],
     plain: &'a [Name],
 }
 
@@ -129,7 +149,7 @@ impl<'a> Model for Names<'a> {
 
     ghost Value = { List Name };
 
-    ghost view = { λ n. names_held n.bits n.firsts.now n.packed.now n.plain.now };
+    ghost view = { λ n. names_held n.bits n.firsts.now n.short.now n.long.now n.plain.now };
 
     ghost invariant = { λ n. record {
       packed : CanPack n.firsts.now n.bits;
@@ -146,7 +166,8 @@ impl<'a> Names<'a> {
             firsts: &[],
             span: Span::none(),
             bits: 0,
-            packed: &[],
+            short: &[],
+            long: &[],
             plain: names,
         }
     }
@@ -155,7 +176,7 @@ impl<'a> Names<'a> {
     pub fn len(&self) -> usize
         ensures { result ≡ length self.now }
     {
-        self.packed.len() + self.plain.len()
+        self.short.len() + self.long.len() + self.plain.len()
     }
 
     /// Name `i`, from 0.
@@ -163,13 +184,16 @@ impl<'a> Names<'a> {
         requires { i < length self.now }
         ensures { result ≡ slice_index_or self.now i first_name }
     {
-        if i < self.packed.len() {
-            let packed = self.packed[i];
+        if i < self.short.len() {
+            let packed = self.short[i];
             let record = record_of(packed, self.bits);
-            unpacked(packed, self.bits, span_with(self.firsts, self.span, record))
-        } else {
-            self.plain[i - self.packed.len()]
+            return unpacked(packed, self.bits, span_with(self.firsts, self.span, record));
         }
+        let i = i - self.short.len();
+        if i < self.long.len() {
+            return unpacked_long(self.firsts, self.span, self.long[i]).0;
+        }
+        self.plain[i - self.long.len()]
     }
 
     /// The first `count` names, and those after them.
@@ -178,20 +202,24 @@ impl<'a> Names<'a> {
         ensures front { result.0 ≡ take count self.now }
         ensures back { result.1 ≡ drop count self.now }
     {
-        let (packed, more_packed) = self.packed.split_at(count.min(self.packed.len()));
-        let (plain, more_plain) = self.plain.split_at(count - packed.len());
+        let (short, more_short) = self.short.split_at(count.min(self.short.len()));
+        let count = count - short.len();
+        let (long, more_long) = self.long.split_at(count.min(self.long.len()));
+        let (plain, more_plain) = self.plain.split_at(count - long.len());
         let front = Names {
             firsts: self.firsts,
             span: self.span,
             bits: self.bits,
-            packed,
+            short,
+            long,
             plain,
         };
         let back = Names {
             firsts: self.firsts,
             span: self.span,
             bits: self.bits,
-            packed: more_packed,
+            short: more_short,
+            long: more_long,
             plain: more_plain,
         };
         (front, back)
@@ -202,12 +230,18 @@ impl<'a> Names<'a> {
     pub fn next(&mut self) -> Option<Name>
         ensures { MatchOption result ((self.old ≡ []) × (self.new ≡ [])) (λ n. self.old ≡ n ∷ self.new) }
     {
-        if let Some((packed, rest)) = self.packed.split_first() {
+        if let Some((packed, rest)) = self.short.split_first() {
             let record = record_of(*packed, self.bits);
             let span = span_with(self.firsts, self.span, record);
-            self.packed = rest;
+            self.short = rest;
             self.span = span;
             return Some(unpacked(*packed, self.bits, span));
+        }
+        if let Some((packed, rest)) = self.long.split_first() {
+            let (name, span) = unpacked_long(self.firsts, self.span, *packed);
+            self.long = rest;
+            self.span = span;
+            return Some(name);
         }
         let (name, rest) = self.plain.split_first()?;
         self.plain = rest;
@@ -251,21 +285,21 @@ fn unpacked(packed: u32, bits: u32, span: Span) -> Name
     }
 }
 
-/// The name of the pair at this place of the record of this number, counted over all splits.
-pub fn name_at(firsts: &[u32], number: u32, place: u32) -> Name
-    requires { AreFirsts firsts.now }
-    ensures { result ≡ record {
-      split = split_under firsts.now number;
-      rec = number - first_under firsts.now (split_under firsts.now number);
-      place = place;
-    } }
+/// The name that a long number means, and its record's split.
+fn unpacked_long(firsts: &[u32], span: Span, packed: u64) -> (Name, Span)
+    requires firsts { AreFirsts firsts.now }
+    requires covers { Covers firsts.now span }
+    ensures name { result.0 ≡ name_under 32 firsts.now packed }
+    ensures covers { Covers firsts.now result.1 }
 {
-    let span = span_of(firsts, number);
-    Name {
+    let number = (packed / 4_294_967_296) as u32;
+    let span = span_with(firsts, span, number);
+    let name = Name {
         split: span.split,
         rec: number.saturating_sub(span.first),
-        place,
-    }
+        place: (packed % 4_294_967_296) as u32,
+    };
+    (name, span)
 }
 
 /// This span if it has the record of this number, else that of the record's split.

@@ -13,5 +13,5 @@ returns-in-Some c =
     (c.span_with-span.ensures.split ∙ ap (split_under firsts) number)
     (c.span_with-span.ensures.first ∙ ap (λ k. first_under firsts (split_under firsts k)) number)
     c.unpacked.ensures in
-    let rest : List Name = names_held n.bits firsts c.in-Some.rest.now n.plain.now in
-    sym c.self.view_is ∙ ap (λ l. names_held n.bits firsts l n.plain.now) c.in-Some.ensures.cases.0 ∙ ap (λ m. m ∷ rest) (sym name)
+    let rest : List Name = names_held n.bits firsts c.in-Some.rest.now n.long.now n.plain.now in
+    sym c.self.view_is ∙ ap (λ l. names_held n.bits firsts l n.long.now n.plain.now) c.in-Some.ensures.cases.0 ∙ ap (λ m. m ∷ rest) (sym name)
