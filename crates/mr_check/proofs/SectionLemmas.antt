@@ -1,5 +1,5 @@
 -- Sections that are walked each by itself.
-use Rattle.std.proofs.Common.{◌≡◌, ℕ, zero, suc, ◌+◌, ◌≤◌, ◌<◌, Option, Some, None, MatchResult, Result, Ok, Err, List, [], ◌∷◌, drop, length, refl, ap, sym, ◌∙◌, subst, arith}
+use Rattle.std.proofs.Common.{◌≡◌, ℕ, zero, suc, ◌+◌, ◌≤◌, Option, Some, None, MatchResult, Result, Ok, Err, List, [], ◌∷◌, drop, length, refl, ap, sym, ◌∙◌, subst, arith}
 use Rattle.std.specs.Prelude.{IfOk, IfSome}
 use Rattle.std.proofs.lemmas.List.{drop-drop}
 use Rattle.mr_certform.specs.declared.grammar_state.Item.{Item}
@@ -11,7 +11,7 @@ use Rattle.mr_certform.specs.declared.walker.Walker.{Walker}
 use Rattle.mr_verdict.specs.Verdict.{Reached, Subject, start, entries_in, first, part_faults}
 use Rattle.mr_verdict.specs.declared.answers.No.{No}
 use Rattle.mr_verdict.specs.Steps.{Answers, Known, subject}
-use Rattle.mr_judge.specs.Borders.{at_border, behind_entries as behind_named, between}
+use Rattle.mr_judge.specs.Borders.{at_border, behind_entries as behind_named}
 use Rattle.mr_judge.specs.declared.border.Border.{Border}
 use Rattle.mr_check.specs.declared.section.Section.{Section}
 use Rattle.mr_check.specs.declared.walk.Came.{Came}

@@ -214,8 +214,20 @@ impl LateList {
     fn push(&mut self, late: Late) -> Result<(), AllocError>
         ensures { OnOk result (self.new ≡ self.old ++ late ∷ []) }
     {
+        if self.late.len() == self.late.capacity() {
+            self.grow()?;
+        }
         self.late.push(late)?;
         Ok(())
+    }
+
+    /// Makes room for an eighth more. There are many lists, so twice the room, as a vector takes it,
+    /// would be much of the memory of a judgement.
+    #[inline(never)]
+    fn grow(&mut self) -> Result<(), AllocError>
+        ensures { self.new ≡ self.old }
+    {
+        self.late.reserve_exact(self.late.len() / 8 + 16)
     }
 
     fn late(&self) -> &[Late]
@@ -260,10 +272,10 @@ fn push_empty(alloc: Global, lists: &mut Vec<LateList>, room: usize) -> Result<(
 }
 
 /// Room for the entries of a window of `size` bytes, if there are `expected` over `all` bytes: its
-/// share, and a sixteenth more. A list that is too short is moved, to twice its size.
+/// share.
 fn room_for(expected: usize, size: u64, all: u64) -> usize {
     let share = (expected as u64).saturating_mul(size) / all.max(1);
-    share.saturating_add(share / 16) as usize
+    share as usize
 }
 
 impl<'a> Claims<'a> {

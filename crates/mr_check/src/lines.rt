@@ -14,8 +14,29 @@ ghost use Rattle.mr_check.specs.Lines.{TellsNear, before_last_tab, told_key};
 use memchr::{memchr, memchr2, memrchr};
 use std::simd::prelude::*;
 
-/// The key that the line in front tells: what stands before its last TAB.
+/// How many bytes of a line one look takes in.
+pub(crate) const NEAR: usize = 32;
+
+/// The key that the line in front tells: what stands before its last TAB. That of a short line costs
+/// one look.
+#[inline]
 pub(crate) fn told_key(rest: &[u8]) -> Option<&[u8]>
+    ensures { MatchOption result (told_key rest.now ≡ None)
+        (λ key. told_key rest.now ≡ Some key.now) }
+{
+    if has_lanes(rest, 0) {
+        let line = u8x32::from_slice(rest);
+        let tab = tabs(line).trailing_zeros() as usize;
+        if tab < 32 && tells_near(line, line, tab) {
+            return Some(&rest[..tab]);
+        }
+    }
+    find_key(rest)
+}
+
+/// The same as `told_key`, of any line.
+#[inline(never)]
+fn find_key(rest: &[u8]) -> Option<&[u8]>
     ensures { MatchOption result (told_key rest.now ≡ None)
         (λ key. told_key rest.now ≡ Some key.now) }
 {

@@ -16,9 +16,6 @@ use crate::windows::add;
 use mr_certform::{Item, Walker};
 use std::alloc::{AllocError, Global};
 
-/// How many of the partitions' first groups begin a section, however few entries come before.
-const PARTITIONS: usize = 64;
-
 impl<'a> Section<'a> {
     /// Before the first partition.
     fn first(walker: &Walker<'a>) -> Section<'a>
@@ -108,19 +105,27 @@ impl<'a> Section<'a> {
     }
 }
 
-/// Whether a section begins at a group, with so many sections and, since the last one began, so
-/// many items before it.
-fn begins_section(group: &Section<'_>, sections: usize, items: u64, share: u64) -> bool {
-    let opens = group.group == 0 && group.next > 1;
-    (opens && sections < PARTITIONS) || items >= share
+/// How a certificate is cut.
+#[derive(Clone, Copy)]
+pub(crate) struct Cuts {
+    /// The fewest items of a section, except where a partition's first group begins one.
+    pub share: u64,
+    /// Up to how many sections a partition's first group begins one, however few items come before.
+    pub openings: usize,
 }
 
-/// The sections of the items that are left. Except where a partition's first group begins one,
-/// each has at least `share` items.
+/// Whether a section begins at a group, with so many sections and, since the last one began, so
+/// many items before it.
+fn begins_section(group: &Section<'_>, sections: usize, items: u64, cuts: Cuts) -> bool {
+    let opens = group.group == 0 && group.next > 1;
+    (opens && sections < cuts.openings) || items >= cuts.share
+}
+
+/// The sections of the items that are left.
 pub(crate) fn sections_of<'a>(
     alloc: Global,
     walker: &Walker<'a>,
-    share: u64,
+    cuts: Cuts,
 ) -> Result<Vec<Section<'a>>, AllocError>
     requires { length (items_left walker.now) < 2 ^ 63 }
     ensures { IfOk result (λ v. All (IsSection walker.now) v.items) }
@@ -131,7 +136,7 @@ pub(crate) fn sections_of<'a>(
     let mut begun = 0;
     while let Some(group) = here.pass_to_group() {
         let items = group.at.saturating_sub(begun);
-        if begins_section(&group, sections.len(), items, share) {
+        if begins_section(&group, sections.len(), items, cuts) {
             begun = group.at;
             sections.push(group)?;
         }

@@ -33,7 +33,7 @@ use crate::guesses::guesses_of;
 use crate::joining::{Joined, join};
 use crate::options::{Crew, JudgeOptions};
 use crate::section::Section;
-use crate::sections::sections_of;
+use crate::sections::{Cuts, sections_of};
 use crate::walk::{Came, Walk, Walked};
 use crate::windows::{Tested, sum_windows, test_window};
 use mr_bytes::{Gate, OpenGate, Phase, Progress, Unwatched};
@@ -53,6 +53,22 @@ const SECTION: u64 = 65_536;
 /// some sections, and what they put off is in lists that are long enough to be filled.
 const BYTES_AN_ITEM: u64 = 32;
 
+/// How many items a section has at least for each window.
+const ITEMS_A_LIST: u64 = 4;
+
+/// How many of the partitions' first groups begin a section, however few items come before, and up
+/// to how many windows.
+const OPENINGS: usize = 64;
+
+const FEW_WINDOWS: usize = 4096;
+
+/// For how many entries the lists of a section of `most` items have room at first. Its entries don't
+/// spread evenly over the windows: of many lists most would be too long, and none is made shorter.
+/// How many items the last section has is not known, and its lists begin with none.
+fn entries_expected(most: u64) -> u64 {
+    if most == u64::MAX { 0 } else { most - most / 4 }
+}
+
 /// Walks a section from the border at which it is guessed to begin, for at most `most` items.
 fn walk_section<'a>(
     alloc: Global,
@@ -65,7 +81,7 @@ fn walk_section<'a>(
     ensures windows { IfOk result (IsByWindows given.now) }
     ensures walked { IfOk result (IsWalked (known given.now) (items_left section.now.walker)) }
 {
-    let claims = claims_for(alloc, given, most)?;
+    let claims = claims_for(alloc, given, entries_expected(most))?;
     let mut walk = Walk::at(alloc, given, &began, claims);
     let mut items = section.walker;
     let came = walk.take_some(given, &mut items, most, &Unwatched);
@@ -148,10 +164,18 @@ impl<'a, 'g, 'b, 's, 'w, W: Progress> WorkPieces for Testing<'a, 'g, 'b, 's, 'w,
 }
 
 impl<'c, R: Threads + Sync, G: Gate, W: Progress> Crew<'c, R, G, W> {
-    /// The fewest items of a section, except where a partition's first group begins one.
-    fn share(&self, given: &Given<'_>) -> u64 {
+    /// How the certificate is cut. A section has a list for each window, so where there are many
+    /// windows no section has few items.
+    fn cuts(&self, given: &Given<'_>) -> Cuts {
         let items = total_bytes(given.kept.plan()) / BYTES_AN_ITEM;
-        SECTION.max(items / u64::from(self.options.threads))
+        let windows = given.windows.count();
+        let openings = if windows <= FEW_WINDOWS { OPENINGS } else { 0 };
+        Cuts {
+            share: SECTION
+                .max(items / u64::from(self.options.threads))
+                .max((windows as u64).saturating_mul(ITEMS_A_LIST)),
+            openings,
+        }
     }
 
     /// Walks all sections, which the gate numbers on from the windows.
@@ -213,7 +237,7 @@ impl<'c, R: Threads + Sync, G: Gate, W: Progress> Crew<'c, R, G, W> {
     {
         let ground = Ground::of(self.alloc, &front.plan, &front.skips, front.outputs)?;
         let given = ground.given(front.request);
-        let Ok(sections) = sections_of(self.alloc, walker, self.share(&given)) else {
+        let Ok(sections) = sections_of(self.alloc, walker, self.cuts(&given)) else {
             return None;
         };
         let pieces = given.windows.count().saturating_add(sections.len());

@@ -3,8 +3,12 @@
 //!     window    map its records; then of each claim in its list: the pair of that name is there,
 //!               and the line tells its key
 //!
-//! A window is as large as a processor's cache holds, so no look-up waits for memory. Each record
-//! is mapped once. The claims of a list may come in any order: it is asked only that each is right.
+//! A window is as large as a processor's cache holds, so no look-up of a pair waits for memory. Each
+//! record is mapped once. The claims of a list may come in any order: it is asked only that each is
+//! right.
+//!
+//! Where the outputs are larger than a cache, a look at a line waits for memory too. There the lines of
+//! many claims are read, one after another, before these claims are tested: the waits overlap.
 ghost use Rattle.std.specs.Prelude.{◌≡◌, ℕ, Option, ◌+◌, ◌≤◌, ◌<◌, All, IfSome, IsTrue, length};
 ghost use Rattle.std.specs.Prelude.{slice_index_or};
 ghost use Rattle.mr_index.specs.Windows.{Tiles};
@@ -16,7 +20,7 @@ ghost use Rattle.mr_check.specs.declared.windows.Tested.{Tested as Found};
 
 use crate::claims::Late;
 use crate::given::Given;
-use crate::lines::tells;
+use crate::lines::{NEAR, tells};
 use crate::walk::Walked;
 use mr_bytes::{Phase, Progress, Throttle};
 use mr_index::{Piece, Window};
@@ -36,6 +40,70 @@ fn is_right(given: &Given<'_>, piece: &Piece, bits: u32, late: Late, p: &mut usi
     tells(given.outputs.rest_at(late.line, p), keys, start, end)
 }
 
+/// Of how many claims the lines are read ahead.
+const AHEAD: usize = 64;
+
+/// Up to how many bytes of outputs stay in a processor's cache.
+const CACHED: u64 = 2 << 20;
+
+/// Reads ahead in a list of claims. The sum of the bytes that it reads is of no use, but without it
+/// they need not be read. Lists are far too short for it to reach its bound.
+#[derive(Drop)]
+struct Ahead {
+    /// How many claims were passed.
+    passed: usize,
+    /// Whether a look at a line waits for memory.
+    waits: bool,
+    sum: u64,
+}
+
+impl Ahead {
+    fn new(given: &Given<'_>) -> Ahead {
+        Ahead {
+            passed: 0,
+            waits: given.outputs.len() > CACHED,
+            sum: 0,
+        }
+    }
+
+    /// Passes a claim. It reads the lines of the next ones where those read so far are passed.
+    #[inline(always)]
+    fn pass(&mut self, given: &Given<'_>, list: &[Late]) {
+        if self.waits && self.passed % AHEAD == 0 {
+            let more = read_lines(given, list, self.passed);
+            self.sum = self.sum.wrapping_add(more);
+        }
+        self.passed = self.passed.wrapping_add(1);
+    }
+
+    fn is_within_bound(&self) -> bool {
+        self.sum < u64::MAX
+    }
+}
+
+/// Reads of the lines of claim `from` and those after it both ends of what `tells` looks at, as far as
+/// they stand behind that line in its output. Returns the bytes' sum.
+#[inline(never)]
+fn read_lines(given: &Given<'_>, list: &[Late], from: usize) -> u64 {
+    let next = match list.get(from..) {
+        Some(next) => &next[..next.len().min(AHEAD)],
+        None => return 0,
+    };
+    let Some(first) = next.first() else {
+        return 0;
+    };
+    let mut p = 0;
+    let rest = given.outputs.rest_at(first.line, &mut p);
+    let mut sum = 0u64;
+    for late in next {
+        let at = late.line.wrapping_sub(first.line) as usize;
+        if let Some(near) = rest.get(at..at + NEAR) {
+            sum = sum.wrapping_add(u64::from(near[0]) + u64::from(near[NEAR - 1]));
+        }
+    }
+    sum
+}
+
 /// So it is for each claim of a list.
 #[inline(never)]
 fn are_right(given: &Given<'_>, piece: &Piece, bits: u32, list: &[Late]) -> bool
@@ -44,12 +112,14 @@ fn are_right(given: &Given<'_>, piece: &Piece, bits: u32, list: &[Late]) -> bool
         → All (IsRightIn given.now bits window) list.now }
 {
     let mut p = 0;
+    let mut ahead = Ahead::new(given);
     for late in list {
+        ahead.pass(given, list);
         if !is_right(given, piece, bits, *late, &mut p) {
             return false;
         }
     }
-    true
+    ahead.is_within_bound()
 }
 
 /// A window that was tested: how many pairs its records emit, and of how many of the walks, from the

@@ -1,14 +1,15 @@
 -- A text that is compared line by line.
-use Rattle.std.proofs.Common.{cond, ◌≡◌, ℕ, zero, suc, ◌+◌, ◌<◌, Bool, true, false, List, [], ◌∷◌, ◌++◌, length, get_or, take, drop, refl, ap, sym, ◌∙◌, arith, inl, inr, append_assoc, length-append}
+use Rattle.std.proofs.Common.{cond, ◌≡◌, ℕ, zero, suc, ◌+◌, ◌<◌, Bool, true, false, List, [], ◌∷◌, ◌++◌, length, get_or, take, drop, refl, ap, sym, ◌∙◌, arith, inl, inr, append_assoc, length-append, subst}
 use Rattle.std.proofs.lemmas.List.{append-nil}
 use Rattle.std.proofs.lemmas.List.Sums.{common_prefix_len-le}
 use Rattle.std.proofs.lemmas.Bool.{eqb-false, ne_eqb}
-use Rattle.std.specs.Prelude.{Err, nat_eq, Some as Just}
+use Rattle.std.proofs.lemmas.Fmt.{decimal_digit}
+use Rattle.std.specs.Prelude.{Err, decimal, nat_eq, Some as Just}
 use Rattle.std.specs.List.{common_prefix_len, flat_map}
 use Rattle.mr_bytes.specs.declared.Value.{Value}
 use Rattle.mr_bytes.specs.declared.Value.TheVariants.{One}
-use Rattle.mr_jobs.specs.JobSpec.{JobSpec, WordCount, LinesWith, Resources, InvertedIndex, has_lines}
-use Rattle.mr_reduce.specs.Text.{place_line, text_of}
+use Rattle.mr_jobs.specs.JobSpec.{JobSpec, WordCount, LinesWith, Resources, InvertedIndex, counts, has_lines}
+use Rattle.mr_reduce.specs.Text.{place_line, text_of, total_line}
 use Rattle.mr_verdict.specs.declared.answers.No.{No}
 use Rattle.mr_verdict.specs.declared.answers.No.TheVariants.{OutputDiffers}
 use Rattle.mr_verdict.specs.declared.items.JudgeError.{JudgeError}
@@ -97,3 +98,23 @@ line_told old mid new p from place pre line post text Device stood at is told = 
 line_told old mid new p from place pre line post text TooLong stood at is told = tt
 line_told old mid new p from place pre line post text (Output q) stood at is told = tt
 line_told old mid new p from place pre line post text LongOutput stood at is told = tt
+
+-- a text that comes behind another
+pub text_behind : (old mid new : Ahead) (pre line text : List ℕ) → ((rest : List ℕ) (later : List (List ℕ)) → mid rest later → old (pre ++ rest) later)
+    → text ≡ pre ++ line → ((rest : List ℕ) (later : List (List ℕ)) → new rest later → mid (line ++ rest) later)
+    → (rest : List ℕ) (later : List (List ℕ)) → new rest later → old (text ++ rest) later
+text_behind old mid new pre line text stood is told rest later h =
+    subst (λ l. old l later) (sym (ap (λ t. t ++ rest) is ∙ append_assoc pre line rest)) (stood (line ++ rest) later (told rest later h))
+
+-- ---- a key that is counted once
+
+pub counted_once : (job : JobSpec) (key : List ℕ) (vs : List Value) → counts job ≡ true → length vs ≡ 1 → text_of job key vs ≡ total_line key 1
+counted_once (WordCount keep_case) key vs e one = ap (total_line key) one
+counted_once (LinesWith literal fold) key vs e one = absurd (let no : false ≡ true = e in cc)
+counted_once Resources key vs e one = ap (total_line key) one
+counted_once (InvertedIndex keep_case) key vs e one = absurd (let no : false ≡ true = e in cc)
+
+pub one_line : (key : List ℕ) → total_line key 1 ≡ key ++ 9 ∷ 49 ∷ 10 ∷ []
+one_line key =
+    let digit : decimal 1 ≡ 49 ∷ [] = decimal_digit 1 (omega arith) in
+    ap (λ (ds : List ℕ). key ++ 9 ∷ ds ++ 10 ∷ []) digit ∙ append_assoc key (9 ∷ 49 ∷ []) (10 ∷ [])

@@ -1,10 +1,9 @@
-use Rattle.std.proofs.Common.{◌≡◌, ℕ, ◌+◌, Option, List, IfSome, sym, ◌∙◌, subst, arith}
+use Rattle.std.proofs.Common.{ℕ, ◌+◌, Option, IfSome, sym, ◌∙◌, subst, arith}
 use Rattle.std.specs.Prelude.{Ok}
-use Rattle.mr_certform.specs.declared.walker.Walker.{Walker}
 use Rattle.mr_certform.specs.Walking.{items_left, halt}
 use Rattle.mr_verdict.specs.Steps.{Known, subject}
 use Rattle.mr_check.specs.declared.joining.Joined.{Joined}
-use Rattle.mr_check.specs.Sections.{AllPass, AreJudged, HoldTo, IsSection, JoinedTo}
+use Rattle.mr_check.specs.Sections.{AllPass, AreJudged, HoldTo, IsSection}
 use Rattle.mr_check.specs.Walk.{known}
 use Rattle.mr_check.proofs.WalkLemmas.{accepted}
 use Rattle.mr_check.proofs.options.Crew.join_tested.Goals as goal

@@ -1,6 +1,6 @@
-use Rattle.std.proofs.Common.{◌≡◌, ◌+◌, ◌-◌, ◌++◌, ◌∷◌, [], Some, sym, ◌∙◌, subst}
+use Rattle.std.proofs.Common.{◌≡◌, ◌+◌, ◌-◌, ◌++◌, ◌∷◌, [], sym, ◌∙◌, subst}
 use Rattle.mr_bytes.specs.Pairs.{Triple}
-use Rattle.mr_verdict.specs.Verdict.{Reached, after_entry}
+use Rattle.mr_verdict.specs.Verdict.{Reached}
 use Rattle.mr_judge.specs.Rows.{row_subject}
 use Rattle.mr_judge.proofs.Faults.{within_after}
 use Rattle.mr_check.specs.Walk.{Stands, known}
