@@ -1,5 +1,4 @@
-use Rattle.std.proofs.Common.{◌∙◌, ap, rules}
-use Rattle.mr_certform.specs.Packed.{split_under, first_under}
+use Rattle.std.proofs.Common.{rules}
 use Rattle.mr_certform.proofs.Packed.{name_of_span}
 use Rattle.mr_certform.proofs.names.unpacked_long.Goals as goal
 

@@ -1,6 +1,5 @@
 use Rattle.std.proofs.Common.{◌≡◌, ◌∙◌, ◌-◌, ap, sym, drop, take, length, arith, ℕ, min, List}
 use Rattle.std.proofs.lemmas.List.{drop_min, take_min, length-take}
-use Rattle.mr_bytes.specs.declared.Name.{Name}
 use Rattle.mr_certform.specs.Packed.{names_held}
 use Rattle.mr_certform.proofs.Packed.{drop-held, take-held}
 use Rattle.mr_certform.proofs.names.Names.split_at.Goals as goal
