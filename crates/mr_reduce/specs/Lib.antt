@@ -2,3 +2,4 @@ pub mod Text
 pub mod Files
 pub mod Laws
 pub mod Writing
+pub mod Appending

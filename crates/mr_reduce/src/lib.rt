@@ -4,6 +4,7 @@
 ghost use Rattle.std.specs.Prelude.{◌≡◌, ◌+◌, ◌<◌, ◌≤◌, ◌++◌, OnOk, OnErr, length, take};
 ghost use Rattle.std.specs.Prelude.{vec_capacity, vec_len};
 ghost use Rattle.std.specs.List.{flat_map};
+ghost use Rattle.mr_reduce.specs.Appending.{Appends};
 ghost use Rattle.mr_reduce.specs.Files.{listed};
 ghost use Rattle.mr_reduce.specs.Text.{text_of, total_line, place_line};
 ghost use Rattle.mr_reduce.specs.Laws.{CountersTellTheNumber, FilesAreTold, FilesRise};
@@ -95,11 +96,7 @@ pub fn append_total(key: &[u8], total: u64, out: &mut Vec<u8>) -> Result<(), All
 }
 
 fn put_total(key: &[u8], total: u64, out: &mut Vec<u8>) -> Result<(), AllocError>
-    ensures kept { take (vec_len out.old) out.new.items ≡ out.old.items }
-    ensures ok { OnOk result (out.new.items ≡ out.old.items ++ total_line key.now total) }
-    ensures full { OnErr result
-        (vec_capacity out.old < vec_len out.old + length (total_line key.now total)) }
-    ensures capacity { vec_capacity out.old ≤ vec_capacity out.new }
+    ensures { Appends result out.old out.new (total_line key.now total) }
 {
     let mut digits = Buffer::new();
     out.extend_from_slice(key)?;
@@ -111,11 +108,7 @@ fn put_total(key: &[u8], total: u64, out: &mut Vec<u8>) -> Result<(), AllocError
 
 /// Appends the line of a key with a place, or nothing if the value is no place.
 fn put_place(key: &[u8], value: Value, out: &mut Vec<u8>) -> Result<(), AllocError>
-    ensures kept { take (vec_len out.old) out.new.items ≡ out.old.items }
-    ensures ok { OnOk result (out.new.items ≡ out.old.items ++ place_line key.now value) }
-    ensures full { OnErr result
-        (vec_capacity out.old < vec_len out.old + length (place_line key.now value)) }
-    ensures capacity { vec_capacity out.old ≤ vec_capacity out.new }
+    ensures { Appends result out.old out.new (place_line key.now value) }
 {
     let Value::At { file, offset } = value else {
         return Ok(());
@@ -131,11 +124,7 @@ fn put_place(key: &[u8], value: Value, out: &mut Vec<u8>) -> Result<(), AllocErr
 }
 
 fn put_places(key: &[u8], values: Listed<'_>, out: &mut Vec<u8>) -> Result<(), AllocError>
-    ensures kept { take (vec_len out.old) out.new.items ≡ out.old.items }
-    ensures ok { OnOk result (out.new.items
-        ≡ out.old.items ++ flat_map (place_line key.now) (listed values.entry)) }
-    ensures full { OnErr result (vec_capacity out.old
-        < vec_len out.old + length (flat_map (place_line key.now) (listed values.entry))) }
+    ensures { Appends result out.old out.new (flat_map (place_line key.now) (listed values.entry)) }
 {
     for i in 0..values.len() {
         put_place(key, values.get(i), out)?;

@@ -12,6 +12,7 @@ ghost use Rattle.std.specs.Prelude.{◌≡◌, ℕ, ◌+◌, ◌<◌, ◌≤◌,
 ghost use Rattle.std.specs.Prelude.{length, take, vec_capacity, vec_len};
 ghost use Rattle.mr_bytes.specs.declared.Value.{Value as Emitted};
 ghost use Rattle.mr_jobs.specs.JobSpec.{JobSpec, group_text_of};
+ghost use Rattle.mr_reduce.specs.Appending.{Appends};
 ghost use Rattle.mr_reduce.specs.Text.{text_of};
 ghost use Rattle.mr_reduce.specs.Writing.{IsWritable, Writes, closing, file_after, opening};
 ghost use Rattle.mr_reduce.specs.Writing.{value_file, value_text};
@@ -96,11 +97,8 @@ impl<'k> TextWriter<'k> {
 
 impl<'k> TextWriter<'k> {
     fn put_value(&self, value: Value, out: &mut Vec<u8>) -> Result<(), AllocError>
-        ensures kept { take (vec_len out.old) out.new.items ≡ out.old.items }
-        ensures ok { OnOk result (out.new.items
-            ≡ out.old.items ++ value_text self.now.text self.now.key self.now.last value) }
-        ensures full { OnErr result (vec_capacity out.old < vec_len out.old
-            + length (value_text self.now.text self.now.key self.now.last value)) }
+        ensures { Appends result out.old out.new
+            (value_text self.now.text self.now.key self.now.last value) }
     {
         match self.text {
             GroupText::Count => Ok(()),
@@ -110,11 +108,8 @@ impl<'k> TextWriter<'k> {
     }
 
     fn put_end(&self, out: &mut Vec<u8>) -> Result<(), AllocError>
-        ensures kept { take (vec_len out.old) out.new.items ≡ out.old.items }
-        ensures ok { OnOk result (out.new.items
-            ≡ out.old.items ++ closing self.now.text self.now.key self.now.count) }
-        ensures full { OnErr result (vec_capacity out.old
-            < vec_len out.old + length (closing self.now.text self.now.key self.now.count)) }
+        ensures { Appends result out.old out.new
+            (closing self.now.text self.now.key self.now.count) }
     {
         match self.text {
             GroupText::Count => put_total(self.key, self.count, out),
@@ -138,10 +133,7 @@ fn after(last: Option<u32>, value: Value) -> Option<u32>
 
 /// Appends the file of a value, unless it is the last one again.
 fn put_next_file(last: Option<u32>, value: Value, out: &mut Vec<u8>) -> Result<(), AllocError>
-    ensures kept { take (vec_len out.old) out.new.items ≡ out.old.items }
-    ensures ok { OnOk result (out.new.items ≡ out.old.items ++ value_file last value) }
-    ensures full { OnErr result
-        (vec_capacity out.old < vec_len out.old + length (value_file last value)) }
+    ensures { Appends result out.old out.new (value_file last value) }
 {
     let Value::At { file, offset: _ } = value else {
         return Ok(());
