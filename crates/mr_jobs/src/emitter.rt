@@ -185,32 +185,20 @@ impl Job {
         requires ready { IsReady self.now line.now buffer.now }
         ensures { pairs_of result ≡ emissions self.now file start line.entry.now }
     {
+        let value = self.value_at(file, start);
         match &self.kind {
-            Kind::Words { keep_case } => words_of(*keep_case, line, buffer, Value::One),
-            Kind::Index { keep_case } => words_of(
-                *keep_case,
-                line,
-                buffer,
-                Value::At {
-                    file,
-                    offset: start as u64,
-                },
-            ),
+            Kind::Words { keep_case } | Kind::Index { keep_case } => {
+                words_of(*keep_case, line, buffer, value)
+            }
             Kind::Grep { literal, fold } => {
                 if holds(line, literal.as_slice(), *fold) {
-                    LinePairs::one_pair(
-                        line,
-                        Value::At {
-                            file,
-                            offset: start as u64,
-                        },
-                    )
+                    LinePairs::one_pair(line, value)
                 } else {
                     LinePairs::nothing(line)
                 }
             }
             Kind::Url => match url(line) {
-                Some(key) => LinePairs::one_pair(key, Value::One),
+                Some(key) => LinePairs::one_pair(key, value),
                 None => LinePairs::nothing(line),
             },
         }

@@ -18,7 +18,6 @@ use crate::job::{Job, Kind};
 use crate::literal_search::LiteralSearch;
 use crate::pairs::LinePairs;
 use crate::piece::WordPiece;
-use mr_bytes::Value;
 use mr_input::Input;
 use std::alloc::{AllocError, Global};
 use std::marker::Model;
@@ -115,12 +114,6 @@ impl<'j, 'i> Mapper<'j, 'i> {
         if !self.hits.hold(from, from + line.len()) {
             return Ok(LinePairs::nothing(line));
         }
-        Ok(LinePairs::one_pair(
-            line,
-            Value::At {
-                file,
-                offset: start as u64,
-            },
-        ))
+        Ok(LinePairs::one_pair(line, job.value_at(file, start)))
     }
 }

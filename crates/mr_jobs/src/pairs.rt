@@ -59,13 +59,7 @@ impl<'a> LinePairs<'a> {
         requires { length text.now ≤ 2 ^ 30 }
         ensures { pairs_of result ≡ [] }
     {
-        LinePairs {
-            text,
-            words: &[],
-            from: text.len(),
-            value: Value::One,
-            whole: false,
-        }
+        LinePairs::some_words(text, &[], Value::One)
     }
 
     pub(crate) fn one_pair(key: &'a [u8], value: Value) -> LinePairs<'a>
