@@ -1,46 +1,84 @@
--- A name as a number: so many low bits are its place, and those above them its record's number over all splits.
-use Rattle.std.specs.Prelude.{◌≡◌, ℕ, ◌+◌, ◌-◌, ◌*◌, ◌/◌, ◌%◌, ◌^◌, ◌<◌, ◌≤◌, List, ◌++◌, length, map, nat_le, slice_index_or}
-use Rattle.std.specs.List.{prefix_len}
-use Rattle.std.specs.List.Sorted.{IsNonDecreasing}
+-- Names as numbers: a span of numbers is that of the pairs of consecutive records of a split, each of which has as many.
+use Rattle.std.specs.Prelude.{◌≡◌, ℕ, zero, suc, ◌+◌, ◌-◌, ◌*◌, ◌/◌, ◌%◌, ◌^◌, ◌<◌, ◌≤◌, All, List, [], ◌∷◌, ◌++◌, if◌then◌else◌, length, map, max, min, nat_le, slice_index_or}
+use Rattle.std.specs.List.{range_with_len}
+use Rattle.std.specs.List.Sorted.{IsNonDecreasingBy}
 use Rattle.mr_bytes.specs.declared.Name.{Name}
-use Rattle.mr_certform.specs.declared.names.Span.{Span}
+use Rattle.mr_bytes.specs.declared.RecordName.{RecordName}
+use Rattle.mr_certform.specs.declared.record_names.NameSpan.{NameSpan}
 
--- the first record of each split, counted over all splits; a split may have none
-pub record AreFirsts (firsts : List ℕ) : Type 0 where
-  pub rise : IsNonDecreasing firsts
-  pub few : length firsts ≤ 2 ^ 32
+-- how many numbers each record has
+abbrev pub unit_of : ℕ → ℕ
+unit_of bits = 2 ^ min bits 32
 
--- the last split that begins at or before the record; split 0 if none does
-unfoldable pub split_under : List ℕ → ℕ → ℕ
-split_under firsts r = prefix_len (λ first. nat_le first r) firsts - 1
-
--- the first record of a split
-abbrev pub first_under : List ℕ → ℕ → ℕ
-first_under firsts s = slice_index_or firsts s 0
-
--- the name that a number means: its record is counted from the first one of its split
-unfoldable pub name_under : ℕ → List ℕ → ℕ → Name
-name_under bits firsts p = record {
-  split = split_under firsts (p / 2 ^ bits);
-  rec = p / 2 ^ bits - first_under firsts (split_under firsts (p / 2 ^ bits));
-  place = p % 2 ^ bits;
+-- the name that a number of the span means
+abbrev pub name_in : NameSpan → ℕ → Name
+name_in span n = record {
+  split = span.split;
+  rec = min (span.rec + (n - span.first) / unit_of span.bits) (2 ^ 32 - 1);
+  place = (n - span.first) % unit_of span.bits;
 }
 
--- packed names of so many bits for the place, then such of 32, then names as they are
-abbrev pub names_held : ℕ → List ℕ → List ℕ → List ℕ → List Name → List Name
-names_held bits firsts short long plain = map (name_under bits firsts) short ++ map (name_under 32 firsts) long ++ plain
+-- of spans, and one before them, the last that begins at or before the number; the first if none does
+unfoldable pub span_behind : NameSpan → List NameSpan → ℕ → NameSpan
+span_behind before [] n = before
+span_behind before (s ∷ ss) n = if nat_le s.first n then span_behind s ss n else before
 
--- the numbers of splits' first records, and of bits for a place
-pub record CanPack (firsts : List ℕ) (bits : ℕ) : Type 0 where
-  pub firsts_are : AreFirsts firsts
-  pub few : bits ≤ 32
+abbrev pub no_span : NameSpan
+no_span = record { first = 0; split = 0; rec = 0; bits = 0 }
 
--- all records of the span are of its split
-abbrev pub Covers : List ℕ → Span → Type 0
-Covers firsts span = (r : ℕ) → span.first ≤ r → r < span.end → (split_under firsts r ≡ span.split) × (first_under firsts span.split ≡ span.first)
+abbrev pub span_under : List NameSpan → ℕ → NameSpan
+span_under spans n = span_behind no_span spans n
 
--- a packed name is unpacked again, if its record is before the first one of the next split
+-- the name that a number means
+unfoldable pub name_under : List NameSpan → ℕ → Name
+name_under spans n = name_in (span_under spans n) n
+
+-- the spans follow one another
+abbrev pub AreSpans : List NameSpan → Type 0
+AreSpans spans = IsNonDecreasingBy (λ (s : NameSpan). s.first) spans
+
+-- the last of these spans has all numbers from the base on
+pub record AreOpen (spans : List NameSpan) (last : NameSpan) (base : ℕ) : Type 0 where
+  pub follow : AreSpans spans
+  pub begun : All (λ (s : NameSpan). s.first ≤ base) spans
+  pub last_begun : last.first ≤ base
+  pub last_is : (n : ℕ) → base ≤ n → span_under spans n ≡ last
+
+-- the numbers of records' pairs, by the counts of these: each record takes a unit of numbers, or more if it has more pairs
+unfoldable pub numbers_from : ℕ → ℕ → List ℕ → List ℕ
+numbers_from unit base [] = []
+numbers_from unit base (count ∷ counts) = range_with_len base count ++ numbers_from unit (base + max unit count) counts
+
+-- the number behind those
+unfoldable pub base_behind : ℕ → ℕ → List ℕ → ℕ
+base_behind unit base [] = base
+base_behind unit base (count ∷ counts) = base_behind unit (base + max unit count) counts
+
+-- the names of so many pairs of a record, from a place on
+unfoldable pub names_from : RecordName → ℕ → ℕ → List Name
+names_from name place zero = []
+names_from name place (suc count) = record { split = name.split; rec = name.rec; place = place } ∷ names_from name (place + 1) count
+
+-- numbers, and the spans that tell what they mean
+pub record Numbered : Type 0 where
+  pub spans : List NameSpan
+  pub numbers : List ℕ
+
+abbrev pub names_of : Numbered → List Name
+names_of n = map (name_under n.spans) n.numbers
+
+-- packed names, then names as they are
+abbrev pub names_held : List NameSpan → List ℕ → List Name → List Name
+names_held spans packed plain = map (name_under spans) packed ++ plain
+
+-- all numbers from the first of the span to before `end` are of the span
+abbrev pub Covers : List NameSpan → NameSpan → ℕ → Type 0
+Covers spans span end = (n : ℕ) → span.first ≤ n → n < end → span_under spans n ≡ span
+
+-- a number of a span is of a record from its first on, and of a place there, if the next span begins behind it
 abbrev pub PackedIsNamed : Type 0
-PackedIsNamed = (bits : ℕ) (firsts : List ℕ) (s rec place : ℕ) → IsNonDecreasing firsts → s < length firsts → place < 2 ^ bits
-    → (s + 1 < length firsts → first_under firsts s + rec < first_under firsts (s + 1))
-    → name_under bits firsts (2 ^ bits * (first_under firsts s + rec) + place) ≡ record { split = s; rec = rec; place = place }
+PackedIsNamed = (spans : List NameSpan) (i j place n : ℕ) → AreSpans spans → i < length spans
+    → let span : NameSpan = slice_index_or spans i no_span in
+    span.bits ≤ 32 → place < 2 ^ span.bits → span.rec + j < 2 ^ 32 → n ≡ span.first + j * 2 ^ span.bits + place
+    → (i + 1 < length spans → n < (slice_index_or spans (i + 1) no_span).first)
+    → name_under spans n ≡ record { split = span.split; rec = span.rec + j; place = place }

@@ -44,7 +44,8 @@ pub fn chunks_law()
     ensures groups { CutByCounts (List Name) }
 {}
 
-/// A packed name is unpacked again, if its record is before the first one of the next split.
+/// A number of a span means a pair of its record: so many records behind the span's first, and so
+/// far behind that record's first number.
 pub fn packed_law()
     ensures { PackedIsNamed }
 {}

@@ -7,7 +7,7 @@
 //!     a header, then partitions       -> write_header, write_partition -> a list of bytes
 //!
 //! Only the magic and the encoding of names depend on the version, so items and states have none.
-//! Cost: a walk takes no memory but a reader's buffer; a `Certificate` takes 8 or 12 bytes a name
+//! Cost: a walk takes no memory but a reader's buffer; a `Certificate` takes 4 or 12 bytes a name
 //! (`names.rt`) and 4 a group.
 //! Source: docs/FORMATS.md, "The certificate".
 #![tactic(auto)]
@@ -19,6 +19,7 @@ mod laws;
 mod names;
 mod piecewise;
 mod reading;
+mod record_names;
 mod short;
 mod stream;
 mod version;
@@ -34,6 +35,7 @@ pub use crate::laws::{
 pub use crate::names::{NameColumn, Names};
 pub use crate::piecewise::{partition_size_hint, write_header, write_partition};
 pub use crate::reading::{ReadFault, read};
+pub use crate::record_names::{NameNumbers, RecordNames};
 pub use crate::stream::{StreamFault, StreamWalker};
 pub use crate::version::{Version, VersionedCertificate};
 pub use crate::walker::Walker;

@@ -1,54 +1,42 @@
-//! The names of a certificate: packed in four bytes each, or in eight, or as they are, in twelve.
+//! The names of a certificate: packed in four bytes each, or as they are, in twelve.
 //!
-//!     firsts   [ 0     3   3   7 ]        the first record of each split, counted over all splits
-//!     short    [ 4 | 1   0 | 2 .. ]       record | place: record 4 is record 1 of split 2
-//!     long     [ 5 | 0 .. ]               the names after those, with 32 bits for the place
-//!     plain    [ n n n .. ]               the names after those, as they are
+//!     spans    [ 0: 0/0 by 4    8: 0/2    17: 1/0 by 4 ]     what numbers mean (`record_names.rt`)
+//!     packed   [ 9 2 17 .. ]                                 a number stands for a name
+//!     plain    [ n n n .. ]                                  the names after those, as they are
 //!
-//! The sequential execution packs its names; names that were read or sent are plain. All short
-//! names have as many bits for the place. A name's split is the last one that begins at or before
-//! its record. `Names` keeps the split of the last name: its records lie from `first` to before
-//! `end`, and none of them is searched for.
-//! Cost: a step for a name of the same split as the one before, else a binary search of the splits.
-ghost use Rattle.std.specs.Prelude.{◌≡◌, ◌<◌, ◌≤◌, ◌^◌, ◌/◌, ◌%◌, ◌-◌, ◌++◌, ◌∷◌, [], OnOk};
+//! The sequential execution packs its names; names that were read or sent are plain. A number is of
+//! the last span that begins at or before it. `Names` keeps the span of the last name: it has the
+//! numbers from its first to before `end`, and none of them is searched for.
+//! Cost: a step for a name of the same span as the one before, else a binary search of the spans.
+ghost use Rattle.std.specs.Prelude.{◌≡◌, ◌<◌, ◌≤◌, ◌++◌, ◌∷◌, [], OnOk};
 ghost use Rattle.std.specs.Prelude.{MatchOption, length, map, take, drop, slice_index_or};
-ghost use Rattle.mr_certform.specs.Packed.{AreFirsts, CanPack, Covers, split_under, first_under};
-ghost use Rattle.mr_certform.specs.Packed.{name_under};
+ghost use Rattle.mr_certform.specs.Packed.{AreSpans, Covers, name_under, no_span};
+ghost use Rattle.mr_certform.specs.Packed.{span_under};
 ghost use Rattle.mr_certform.specs.Places.{first_name};
 
+use crate::record_names::{NameSpan, RecordNames};
 use mr_bytes::Name;
 use std::alloc::{AllocError, Global};
 use std::marker::Model;
 
-/// Records of one split, from `first` to before `end`, counted over all splits.
-#[derive(Clone, Copy, Drop)]
-pub(crate) struct Span {
-    split: u32,
-    first: u32,
-    end: u32,
-}
-
-/// Names, in order: short ones, then long ones, then plain ones.
+/// Names, in order: packed ones, then plain ones.
 #[derive(Drop)]
 pub struct NameColumn {
-    firsts: Vec<u32>,
-    /// How many bits of a short name are its place.
-    bits: u32,
-    short: Vec<u32>,
-    long: Vec<u64>,
+    spans: Vec<NameSpan>,
+    packed: Vec<u32>,
     plain: Vec<Name>,
 }
 
 impl Model for NameColumn {
     ghost use Rattle.std.specs.Prelude.{List};
     ghost use Rattle.mr_bytes.specs.declared.Name.{Name};
-    ghost use Rattle.mr_certform.specs.Packed.{CanPack, names_held};
+    ghost use Rattle.mr_certform.specs.Packed.{AreSpans, names_held};
 
     ghost Value = { List Name };
 
-    ghost view = { λ n. names_held n.bits n.firsts.items n.short.items n.long.items n.plain.items };
+    ghost view = { λ n. names_held n.spans.items n.packed.items n.plain.items };
 
-    ghost invariant = { λ n. CanPack n.firsts.items n.bits };
+    ghost invariant = { λ n. AreSpans n.spans.items };
 }
 
 impl NameColumn {
@@ -57,39 +45,19 @@ impl NameColumn {
         ensures { result ≡ names.items }
     {
         NameColumn {
-            firsts: Vec::new(alloc),
-            bits: 0,
-            short: Vec::new(alloc),
-            long: Vec::new(alloc),
+            spans: Vec::new(alloc),
+            packed: Vec::new(alloc),
             plain: names,
         }
     }
 
-    /// The names that these numbers mean: their low bits are places, and those above them numbers
-    /// of records, by the first record of each split.
-    pub fn short(alloc: Global, short: Vec<u32>, bits: u32, firsts: Vec<u32>) -> NameColumn
-        requires { CanPack firsts.items bits }
-        ensures { result ≡ map (name_under bits firsts.items) short.items }
+    /// The names that these numbers stand for.
+    pub fn packed(alloc: Global, packed: Vec<u32>, names: RecordNames) -> NameColumn
+        ensures { result ≡ map (name_under names.spans) packed.items }
     {
         NameColumn {
-            firsts,
-            bits,
-            short,
-            long: Vec::new(alloc),
-            plain: Vec::new(alloc),
-        }
-    }
-
-    /// The same with 32 bits for the place.
-    pub fn long(alloc: Global, long: Vec<u64>, firsts: Vec<u32>) -> NameColumn
-        requires { AreFirsts firsts.items }
-        ensures { result ≡ map (name_under 32 firsts.items) long.items }
-    {
-        NameColumn {
-            firsts,
-            bits: 0,
-            short: Vec::new(alloc),
-            long,
+            spans: names.into_spans(),
+            packed,
             plain: Vec::new(alloc),
         }
     }
@@ -121,11 +89,10 @@ impl NameColumn {
         ensures { result ≡ self.now }
     {
         Names {
-            firsts: &self.firsts,
-            span: Span::none(),
-            bits: self.bits,
-            short: &self.short,
-            long: &self.long,
+            spans: &self.spans,
+            span: NameSpan::none(),
+            end: 0,
+            packed: &self.packed,
             plain: &self.plain,
         }
     }
@@ -134,26 +101,25 @@ impl NameColumn {
 /// The names that are still unread, in order.
 #[derive(Drop)]
 pub struct Names<'a> {
-    firsts: &'a [u32],
-    span: Span,
-    bits: u32,
-    short: &'a [u32],
-    long: &'a [u64],
+    spans: &'a [NameSpan],
+    span: NameSpan,
+    end: u32,
+    packed: &'a [u32],
     plain: &'a [Name],
 }
 
 impl<'a> Model for Names<'a> {
     ghost use Rattle.std.specs.Prelude.{List};
     ghost use Rattle.mr_bytes.specs.declared.Name.{Name};
-    ghost use Rattle.mr_certform.specs.Packed.{CanPack, Covers, names_held};
+    ghost use Rattle.mr_certform.specs.Packed.{AreSpans, Covers, names_held};
 
     ghost Value = { List Name };
 
-    ghost view = { λ n. names_held n.bits n.firsts.now n.short.now n.long.now n.plain.now };
+    ghost view = { λ n. names_held n.spans.now n.packed.now n.plain.now };
 
     ghost invariant = { λ n. record {
-      packed : CanPack n.firsts.now n.bits;
-      covers : Covers n.firsts.now n.span;
+      follow : AreSpans n.spans.now;
+      covers : Covers n.spans.now n.span n.end;
     } };
 }
 
@@ -163,11 +129,10 @@ impl<'a> Names<'a> {
         ensures { result ≡ names.entry.now }
     {
         Names {
-            firsts: &[],
-            span: Span::none(),
-            bits: 0,
-            short: &[],
-            long: &[],
+            spans: &[],
+            span: NameSpan::none(),
+            end: 0,
+            packed: &[],
             plain: names,
         }
     }
@@ -176,7 +141,7 @@ impl<'a> Names<'a> {
     pub fn len(&self) -> usize
         ensures { result ≡ length self.now }
     {
-        self.short.len() + self.long.len() + self.plain.len()
+        self.packed.len() + self.plain.len()
     }
 
     /// Name `i`, from 0.
@@ -184,16 +149,13 @@ impl<'a> Names<'a> {
         requires { i < length self.now }
         ensures { result ≡ slice_index_or self.now i first_name }
     {
-        if i < self.short.len() {
-            let packed = self.short[i];
-            let record = record_of(packed, self.bits);
-            return unpacked(packed, self.bits, span_with(self.firsts, self.span, record));
+        if i < self.packed.len() {
+            let number = self.packed[i];
+            return span_with(self.spans, self.span, self.end, number)
+                .0
+                .name(number);
         }
-        let i = i - self.short.len();
-        if i < self.long.len() {
-            return unpacked_long(self.firsts, self.span, self.long[i]).0;
-        }
-        self.plain[i - self.long.len()]
+        self.plain[i - self.packed.len()]
     }
 
     /// The first `count` names, and those after them.
@@ -202,24 +164,20 @@ impl<'a> Names<'a> {
         ensures front { result.0 ≡ take count self.now }
         ensures back { result.1 ≡ drop count self.now }
     {
-        let (short, more_short) = self.short.split_at(count.min(self.short.len()));
-        let count = count - short.len();
-        let (long, more_long) = self.long.split_at(count.min(self.long.len()));
-        let (plain, more_plain) = self.plain.split_at(count - long.len());
+        let (packed, more_packed) = self.packed.split_at(count.min(self.packed.len()));
+        let (plain, more_plain) = self.plain.split_at(count - packed.len());
         let front = Names {
-            firsts: self.firsts,
+            spans: self.spans,
             span: self.span,
-            bits: self.bits,
-            short,
-            long,
+            end: self.end,
+            packed,
             plain,
         };
         let back = Names {
-            firsts: self.firsts,
+            spans: self.spans,
             span: self.span,
-            bits: self.bits,
-            short: more_short,
-            long: more_long,
+            end: self.end,
+            packed: more_packed,
             plain: more_plain,
         };
         (front, back)
@@ -230,18 +188,12 @@ impl<'a> Names<'a> {
     pub fn next(&mut self) -> Option<Name>
         ensures { MatchOption result ((self.old ≡ []) × (self.new ≡ [])) (λ n. self.old ≡ n ∷ self.new) }
     {
-        if let Some((packed, rest)) = self.short.split_first() {
-            let record = record_of(*packed, self.bits);
-            let span = span_with(self.firsts, self.span, record);
-            self.short = rest;
+        if let Some((number, rest)) = self.packed.split_first() {
+            let (span, end) = span_with(self.spans, self.span, self.end, *number);
+            self.packed = rest;
             self.span = span;
-            return Some(unpacked(*packed, self.bits, span));
-        }
-        if let Some((packed, rest)) = self.long.split_first() {
-            let (name, span) = unpacked_long(self.firsts, self.span, *packed);
-            self.long = rest;
-            self.span = span;
-            return Some(name);
+            self.end = end;
+            return Some(span.name(*number));
         }
         let (name, rest) = self.plain.split_first()?;
         self.plain = rest;
@@ -249,97 +201,48 @@ impl<'a> Names<'a> {
     }
 }
 
-impl Span {
-    /// A span that has no record.
-    fn none() -> Span
-        ensures { result.end ≡ 0 }
-    {
-        Span {
-            split: 0,
-            first: 0,
-            end: 0,
-        }
-    }
-}
-
-fn record_of(packed: u32, bits: u32) -> u32
-    requires { bits ≤ 32 }
-    ensures { result ≡ packed / 2 ^ bits }
-{
-    (u64::from(packed) >> bits) as u32
-}
-
-/// The name that the number means, whose record's split is that of the span.
-fn unpacked(packed: u32, bits: u32, span: Span) -> Name
-    requires { bits ≤ 32 }
-    ensures { result ≡ record {
-      split = span.split;
-      rec = packed / 2 ^ bits - span.first;
-      place = packed % 2 ^ bits;
-    } }
-{
-    Name {
-        split: span.split,
-        rec: record_of(packed, bits).saturating_sub(span.first),
-        place: (u64::from(packed) % (1u64 << bits)) as u32,
-    }
-}
-
-/// The name that a long number means, and its record's split.
-fn unpacked_long(firsts: &[u32], span: Span, packed: u64) -> (Name, Span)
-    requires firsts { AreFirsts firsts.now }
-    requires covers { Covers firsts.now span }
-    ensures name { result.0 ≡ name_under 32 firsts.now packed }
-    ensures covers { Covers firsts.now result.1 }
-{
-    let number = (packed / 4_294_967_296) as u32;
-    let span = span_with(firsts, span, number);
-    let name = Name {
-        split: span.split,
-        rec: number.saturating_sub(span.first),
-        place: (packed % 4_294_967_296) as u32,
-    };
-    (name, span)
-}
-
-/// This span if it has the record of this number, else that of the record's split.
+/// The span of the number, and the end of its numbers: this one if it has it, else the one found.
 #[inline]
-fn span_with(firsts: &[u32], span: Span, number: u32) -> Span
-    requires firsts { AreFirsts firsts.now }
-    requires covers { Covers firsts.now span }
-    ensures split { result.split ≡ split_under firsts.now number }
-    ensures first { result.first ≡ first_under firsts.now (split_under firsts.now number) }
-    ensures covers { Covers firsts.now result }
+fn span_with(spans: &[NameSpan], span: NameSpan, end: u32, number: u32) -> (NameSpan, u32)
+    requires spans { AreSpans spans.now }
+    requires covers { Covers spans.now span end }
+    ensures span { result.0 ≡ span_under spans.now number }
+    ensures covers { Covers spans.now result.0 result.1 }
 {
-    if span.first <= number && number < span.end {
-        span
+    if span.first <= number && number < end {
+        (span, end)
     } else {
-        span_of(firsts, number)
+        span_of(spans, number)
     }
 }
 
-/// The span of the record's split, or an empty one before all splits.
+/// The last span that begins at or before the number, or none, and where the next one begins.
 #[inline(never)]
-fn span_of(firsts: &[u32], number: u32) -> Span
-    requires { AreFirsts firsts.now }
-    ensures split { result.split ≡ split_under firsts.now number }
-    ensures first { result.first ≡ first_under firsts.now (split_under firsts.now number) }
-    ensures covers { Covers firsts.now result }
+fn span_of(spans: &[NameSpan], number: u32) -> (NameSpan, u32)
+    requires { AreSpans spans.now }
+    ensures span { result.0 ≡ span_under spans.now number }
+    ensures covers { Covers spans.now result.0 result.1 }
 {
-    let begun = firsts.partition_point(|first| *first <= number);
-    let split = begun.saturating_sub(1);
-    Span {
-        split: split as u32,
-        first: first_or(firsts, split, 0),
-        end: first_or(firsts, begun, u32::MAX),
+    let begun = spans.partition_point(|span| span.first <= number);
+    (span_before(spans, begun), first_of(spans, begun))
+}
+
+fn span_before(spans: &[NameSpan], i: usize) -> NameSpan
+    requires { i ≤ length spans.now }
+    ensures { result ≡ slice_index_or (no_span ∷ spans.now) i no_span }
+{
+    match i.checked_sub(1) {
+        Some(before) => spans[before],
+        None => NameSpan::none(),
     }
 }
 
-fn first_or(firsts: &[u32], split: usize, or: u32) -> u32
-    ensures { result ≡ slice_index_or firsts.now split or }
+/// Where span `i` begins, if there is one.
+fn first_of(spans: &[NameSpan], i: usize) -> u32
+    ensures { i < length spans.now → result ≡ (slice_index_or spans.now i no_span).first }
 {
-    match firsts.get(split) {
-        Some(first) => *first,
-        None => or,
+    match spans.get(i) {
+        Some(span) => span.first,
+        None => u32::MAX,
     }
 }

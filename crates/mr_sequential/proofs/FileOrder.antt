@@ -1,14 +1,14 @@
 -- Pairs stand in the order of their files, and so do the pairs of each row.
-use Rattle.std.proofs.Common.{◌≡◌, ℕ, zero, suc, ◌+◌, ◌/◌, eqb, ◌<◌, ◌≤◌, true, false, cond, not, Bool, List, [], ◌∷◌, ◌++◌, ◌∙◌, filter, map, sym, ap, subst, arith, inl, inr, All}
+use Rattle.std.proofs.Common.{◌≡◌, ℕ, zero, suc, ◌+◌, ◌/◌, eqb, ◌<◌, ◌≤◌, true, false, cond, not, Bool, List, [], ◌∷◌, ◌++◌, ◌∙◌, filter, length, map, sym, ap, subst, arith, inl, inr, All}
 use Rattle.std.proofs.lemmas.List.Elements.{All-head, All-tail, All-filter}
 use Rattle.mr_bytes.specs.declared.Name.{Name}
-use Rattle.mr_bytes.specs.declared.RecordName.{RecordName}
 use Rattle.mr_bytes.specs.declared.Value.{Value}
 use Rattle.mr_bytes.specs.Lists.{Has}
 use Rattle.mr_records.specs.Records.{Record, records}
 use Rattle.mr_input.specs.Files.{split_count}
 use Rattle.mr_jobs.specs.JobSpec.{JobSpec, WordCount, LinesWith, Resources, InvertedIndex, counts}
-use Rattle.mr_jobs.specs.Emissions.{value_at}
+use Rattle.mr_jobs.specs.Emissions.{emissions, value_at}
+use Rattle.std.specs.List.{flat_map}
 use Rattle.mr_reduce.specs.Text.{file_in}
 use Rattle.mr_reduce.specs.Files.{NeverFalls, Tells}
 use Rattle.mr_reduce.specs.Writing.{IsWritable}
@@ -19,7 +19,9 @@ use Rattle.mr_bytes.specs.Pairs.{Triple}
 use Rattle.std.specs.Str.{bytes_eq}
 use Rattle.mr_sequential.specs.Certified.{names_with}
 use Rattle.mr_sequential.specs.Sequential.{triples_with}
-use Rattle.mr_sequential.specs.Names.{names_beside, names_by_counts, names_from, record_under, triples_of, value_under}
+use Rattle.mr_certform.specs.Packed.{names_from}
+use Rattle.mr_sequential.specs.Names.{record_names, record_under, triples_of, value_under}
+use Rattle.mr_sequential.proofs.SourceLemmas.{kept-names}
 use Rattle.mr_sequential.proofs.ValueLemmas.{all-found}
 
 -- the files of items never fall, and none is below the floor
@@ -99,23 +101,25 @@ module _ (all : List NamedRecord) where
             (names-climb r (place + 1) count rest there up),
       )
 
-  beside-climbs : (floor : ℕ) (rs : List NamedRecord) (counts : List ℕ) → All IsThere rs
-      → Climbs file_of floor rs → Climbs file_under floor (names_beside rs counts)
-  beside-climbs floor [] counts there up = tt
-  beside-climbs floor (r ∷ rs) [] there up = tt
-  beside-climbs floor (r ∷ rs) (count ∷ counts) there up =
-      let rest : List Name = names_beside rs counts in
-      climbs-lower file_under floor r.file (names_from r.name 0 count ++ rest) up.0
-      (names-climb r 0 count rest (All-head IsThere r rs there) (beside-climbs r.file rs counts (All-tail IsThere r rs there) up.1))
+  records-climb : (job : JobSpec) (floor : ℕ) (rs : List NamedRecord) → All IsThere rs
+      → Climbs file_of floor rs → Climbs file_under floor (flat_map (record_names job) rs)
+  records-climb job floor [] there up = tt
+  records-climb job floor (r ∷ rs) there up =
+      let rest : List Name = flat_map (record_names job) rs in
+      climbs-lower file_under floor r.file (record_names job r ++ rest) up.0
+      (names-climb r 0 (length (emissions job r.file r.start r.bytes)) rest (All-head IsThere r rs there)
+      (records-climb job r.file rs (All-tail IsThere r rs there) up.1))
 
-kept-climb : (cut : Cut) (skips : List RecordName) (counts : List ℕ) → 0 < cut.size
-    → Climbs (file_under (records_of cut)) 0 (names_beside (kept_records skips (records_of cut)) counts)
-kept-climb cut skips counts some =
+triples-climb : (job : JobSpec) (choice : Choice) → 0 < choice.cut.size
+    → Climbs (file_under (records_of choice.cut)) 0 (map (λ (t : Triple). t.name) (triples_of job choice))
+triples-climb job choice some =
+    let cut : Cut = choice.cut in
     let all : List NamedRecord = records_of cut in
-    let keep : NamedRecord → Bool = λ r. not (is_left_out skips r.name) in
-    beside-climbs all 0 (kept_records skips all) counts
+    let keep : NamedRecord → Bool = λ r. not (is_left_out choice.skips r.name) in
+    subst (Climbs (file_under all) 0) (kept-names job choice.skips all)
+    (records-climb all job 0 (kept_records choice.skips all)
     (All-filter keep (IsThere all) all (λ k d h. (all-found cut.size cut.files some k d h).found))
-    (climbs-filter file_of keep 0 all (files-climb cut.size 0 0 cut.files))
+    (climbs-filter file_of keep 0 all (files-climb cut.size 0 0 cut.files)))
 
 -- ---- what a writer of texts asks
 
@@ -137,20 +141,18 @@ climbs-outside file g floor [] up = tt
 climbs-outside file g floor (y ∷ ys) up = (up.0, climbs-outside file g (file (g y)) ys up.1)
 
 -- the files of the triples of a key never fall
-pub key-rises : (job : JobSpec) (choice : Choice) (counts : List ℕ) (k : List ℕ) → 0 < choice.cut.size
-    → names_by_counts choice counts ≡ map (λ (t : Triple). t.name) (triples_of job choice)
+pub key-rises : (job : JobSpec) (choice : Choice) (k : List ℕ) → 0 < choice.cut.size
     → NeverFalls (map (value_under job (records_of choice.cut)) (names_with (triples_of job choice) k))
-key-rises job choice counts k some is =
+key-rises job choice k some =
     let all : List NamedRecord = records_of choice.cut in
     let ts : List Triple = triples_of job choice in
     let name : Triple → Name = λ t. t.name in
     let file : Triple → ℕ = λ t. file_under all t.name in
-    let up : Climbs (file_under all) 0 (map name ts) = subst (Climbs (file_under all) 0) is (kept-climb choice.cut choice.skips counts some) in
     climbs-values (file_under all) (value_under job all)
     (λ n f h. tells-file job (record_under all n).file (record_under all n).start f h)
     0 (names_with ts k)
     (climbs-outside (file_under all) name 0 (triples_with ts k)
-    (climbs-filter file (λ t. bytes_eq t.key k) 0 ts (climbs-inside (file_under all) name 0 ts up)))
+    (climbs-filter file (λ t. bytes_eq t.key k) 0 ts (climbs-inside (file_under all) name 0 ts (triples-climb job choice some))))
 
 pub writable : (job : JobSpec) (vs : List Value) → counts job ≡ false → NeverFalls vs → IsWritable job vs
 writable job vs counting rise = record { few = λ is. absurd (let never : true ≡ false = sym is ∙ counting in cc); rising = λ is. rise }

@@ -18,7 +18,7 @@ use Rattle.mr_group.proofs.BucketLemmas.{before-more, before-rises}
 use Rattle.mr_splits.specs.Cut.{records_of}
 use Rattle.mr_splits.specs.Kept.{Choice}
 use Rattle.mr_splits.specs.Named.{NamedRecord}
-use Rattle.mr_sequential.specs.Names.{IsOfRecord, names_by_counts, triples_of, value_under}
+use Rattle.mr_sequential.specs.Names.{IsOfRecord, triples_of, value_under}
 use Rattle.mr_sequential.specs.Rows.{AreGrouped, HaveNames, count_line, names_text, row_names, row_start, row_texts}
 use Rattle.mr_sequential.specs.Rules.{part, rules_of}
 use Rattle.mr_sequential.specs.Sequential.{texts_of, triples_with, values_of}
@@ -65,10 +65,9 @@ some-names P keep ts all =
     (All-filter keep (λ (t : Triple). P t.name) ts
     (λ k d h. subst P (get_or-map (λ (t : Triple). t.name) ts k d d.name h) (all k d.name (omega (arith, h, length-map ts (λ (t : Triple). t.name))))))
 
-pub have-names : (request : RequestSpec) (choice : Choice) (counts : List ℕ) (rows : List Row) (g : FlatGroups) → 0 < choice.cut.size
-    → names_by_counts choice counts ≡ map (λ (t : Triple). t.name) (triples_of request.job choice)
+pub have-names : (request : RequestSpec) (choice : Choice) (rows : List Row) (g : FlatGroups) → 0 < choice.cut.size
     → AreGrouped request (triples_of request.job choice) rows g → HaveNames request.job choice.cut (length rows) g
-have-names request choice counts rows g some is grouped =
+have-names request choice rows g some grouped =
     let ts : List Triple = triples_of request.job choice in
     let value : Name → Value = value_under request.job (records_of choice.cut) in
     record {
@@ -76,9 +75,9 @@ have-names request choice counts rows g some is grouped =
       within = grouped.within;
       named = λ r h. subst (All (IsOfRecord choice.cut)) (sym (grouped.names_are r h))
           (some-names (IsOfRecord choice.cut) (λ t. bytes_eq t.key (row_key (get_or rows r no_row))) ts
-          (subst (All (IsOfRecord choice.cut)) is (names-named choice.cut choice.skips counts some)));
+          (names-named request.job choice.cut choice.skips some));
       rising = λ r h. subst (λ (l : List Name). NeverFalls (map value l)) (sym (grouped.names_are r h))
-          (key-rises request.job choice counts (row_key (get_or rows r no_row)) some is);
+          (key-rises request.job choice (row_key (get_or rows r no_row)) some);
     }
 
 -- the texts of rows by the values that their names tell

@@ -1,4 +1,3 @@
-pub mod PackedLemmas
 pub mod CertifiedLaws
 pub mod EntryLaws
 pub mod FileOrder

@@ -3,7 +3,6 @@ use Rattle.std.proofs.Common.{◌≡◌, ℕ, ◌+◌, ◌/◌, ◌≤◌, ◌^�
 use Rattle.std.proofs.lemmas.List.{map-append, append-nil, length-append, length-map}
 use Rattle.std.proofs.lemmas.List.Sums.{sum_by-cons}
 use Rattle.std.specs.List.{flat_map}
-use Rattle.mr_bytes.specs.declared.Name.{Name}
 use Rattle.mr_bytes.specs.declared.RecordName.{RecordName}
 use Rattle.mr_records.specs.Records.{Record, lengthen, records_from, records}
 use Rattle.mr_input.specs.Files.{split_count, total_size}
@@ -14,7 +13,8 @@ use Rattle.mr_splits.specs.Named.{NamedRecord, is_left_out, named_from, named_fi
 use Rattle.mr_splits.specs.Kept.{kept_records}
 use Rattle.mr_bytes.specs.Pairs.{Triple}
 use Rattle.mr_sequential.specs.Emitted.{placed_from, record_triples, emitted}
-use Rattle.mr_sequential.specs.Names.{names_from, names_beside, pair_count, record_names}
+use Rattle.mr_certform.specs.Packed.{names_from}
+use Rattle.mr_sequential.specs.Names.{record_names}
 use Rattle.mr_sequential.specs.Pairs.{kept_pairs, record_keys}
 pub use Rattle.std.proofs.lemmas.List.Concat.{flat_map-append}
 
@@ -44,21 +44,15 @@ unfolding placed_from names_from
 placed-names name place [] = refl
 placed-names name place (e ∷ es) = ap (λ l. record { split = name.split; rec = name.rec; place = place } ∷ l) (placed-names name (place + 1) es)
 
--- each record beside how many it gives
-beside-counts : (job : JobSpec) (rs : List NamedRecord) → names_beside rs (map (pair_count job) rs) ≡ flat_map (record_names job) rs
-beside-counts job [] = refl
-beside-counts job (r ∷ rs) = ap (λ (l : List Name). record_names job r ++ l) (beside-counts job rs)
-
 pub kept-keys : (job : JobSpec) (skips : List RecordName) (rs : List NamedRecord)
     → flat_map (record_keys job) (kept_records skips rs) ≡ map (λ (t : Triple). t.key) (flat_map (record_triples job skips) rs)
 kept-keys job skips rs =
     kept-triples (λ (t : Triple). t.key) (record_keys job) job skips (λ r. placed-keys r.name 0 (emissions job r.file r.start r.bytes)) rs
 
 pub kept-names : (job : JobSpec) (skips : List RecordName) (rs : List NamedRecord)
-    → names_beside (kept_records skips rs) (map (pair_count job) (kept_records skips rs)) ≡ map (λ (t : Triple). t.name) (flat_map (record_triples job skips) rs)
+    → flat_map (record_names job) (kept_records skips rs) ≡ map (λ (t : Triple). t.name) (flat_map (record_triples job skips) rs)
 kept-names job skips rs =
-    beside-counts job (kept_records skips rs)
-    ∙ kept-triples (λ (t : Triple). t.name) (record_names job) job skips (λ r. placed-names r.name 0 (emissions job r.file r.start r.bytes)) rs
+    kept-triples (λ (t : Triple). t.name) (record_names job) job skips (λ r. placed-names r.name 0 (emissions job r.file r.start r.bytes)) rs
 
 -- one more of the records
 pub next_gathered : {Y : Type 0} (f : NamedRecord → List Y) (old now given all : List Y) (left later : List NamedRecord) (r : NamedRecord)
@@ -66,12 +60,6 @@ pub next_gathered : {Y : Type 0} (f : NamedRecord → List Y) (old now given all
 next_gathered {Y} f old now given all left later r is one grown before =
     ap (λ (l : List Y). l ++ flat_map f later) (grown ∙ ap (λ (l : List Y). old ++ l) one) ∙ append_assoc old (f r) (flat_map f later)
     ∙ ap (λ (l : List NamedRecord). old ++ flat_map f l) (sym is) ∙ before
-
-pub next_counted : (f : NamedRecord → ℕ) (old now all : List ℕ) (left later : List NamedRecord) (r : NamedRecord)
-    → left ≡ r ∷ later → now ≡ old ++ f r ∷ [] → old ++ map f left ≡ all → now ++ map f later ≡ all
-next_counted f old now all left later r is grown before =
-    ap (λ (l : List ℕ). l ++ map f later) grown ∙ append_assoc old (f r ∷ []) (map f later)
-    ∙ ap (λ (l : List NamedRecord). old ++ map f l) (sym is) ∙ before
 
 -- no more records
 pub last_gathered : {Y : Type 0} (f : NamedRecord → List Y) (old all : List Y) (left : List NamedRecord) → left ≡ [] → old ++ flat_map f left ≡ all → old ≡ all

@@ -20,10 +20,11 @@ use Rattle.mr_splits.specs.Kept.{kept_records}
 use Rattle.mr_splits.proofs.NameLemmas.{none-past}
 use Rattle.mr_splits.proofs.NumberLemmas.{numbers-count}
 use Rattle.mr_sequential.specs.Emitted.{emitted, placed_from, record_triples}
-use Rattle.mr_sequential.specs.Names.{names_from, names_beside, IsOfRecord, value_under}
+use Rattle.mr_certform.specs.Packed.{names_from}
+use Rattle.mr_sequential.specs.Names.{IsOfRecord, record_names, value_under}
 use Rattle.mr_bytes.specs.declared.Name.{Name}
 use Rattle.mr_group.proofs.ListLemmas.{Has-at, Has-Contains}
-use Rattle.mr_sequential.proofs.SourceLemmas.{pair_of}
+use Rattle.mr_sequential.proofs.SourceLemmas.{kept-names, pair_of}
 
 -- the record of that name is this one
 pub record IsFound (size : ℕ) (files : List (List ℕ)) (r : NamedRecord) : Type 0 where
@@ -70,19 +71,19 @@ from-named cut r place (suc count) f =
     All-cons (IsOfRecord cut) (record { split = r.name.split; rec = r.name.rec; place = place }) (names_from r.name (place + 1) count)
     (f.split, f.number) (from-named cut r (place + 1) count f)
 
-beside-named : (cut : Cut) (rs : List NamedRecord) (counts : List ℕ) → All (IsFound cut.size cut.files) rs → All (IsOfRecord cut) (names_beside rs counts)
-beside-named cut [] counts all = All-nil (IsOfRecord cut)
-beside-named cut (r ∷ rs) [] all = All-nil (IsOfRecord cut)
-beside-named cut (r ∷ rs) (count ∷ counts) all =
-    All-append (IsOfRecord cut) (names_from r.name 0 count) (names_beside rs counts)
-    (from-named cut r 0 count (All-head (IsFound cut.size cut.files) r rs all))
-    (beside-named cut rs counts (All-tail (IsFound cut.size cut.files) r rs all))
+records-named : (job : JobSpec) (cut : Cut) (rs : List NamedRecord) → All (IsFound cut.size cut.files) rs → All (IsOfRecord cut) (flat_map (record_names job) rs)
+records-named job cut [] all = All-nil (IsOfRecord cut)
+records-named job cut (r ∷ rs) all =
+    All-append (IsOfRecord cut) (record_names job r) (flat_map (record_names job) rs)
+    (from-named cut r 0 (length (emissions job r.file r.start r.bytes)) (All-head (IsFound cut.size cut.files) r rs all))
+    (records-named job cut rs (All-tail (IsFound cut.size cut.files) r rs all))
 
-pub names-named : (cut : Cut) (skips : List RecordName) (counts : List ℕ) → 0 < cut.size
-    → All (IsOfRecord cut) (names_beside (kept_records skips (records_of cut)) counts)
-names-named cut skips counts some =
-    beside-named cut (kept_records skips (records_of cut)) counts
-    (All-filter (λ r. not (is_left_out skips r.name)) (IsFound cut.size cut.files) (records_of cut) (all-found cut.size cut.files some))
+pub names-named : (job : JobSpec) (cut : Cut) (skips : List RecordName) → 0 < cut.size
+    → All (IsOfRecord cut) (map (λ (t : Triple). t.name) (emitted job cut.size cut.files skips))
+names-named job cut skips some =
+    subst (All (IsOfRecord cut)) (kept-names job skips (records_of cut))
+    (records-named job cut (kept_records skips (records_of cut))
+    (All-filter (λ r. not (is_left_out skips r.name)) (IsFound cut.size cut.files) (records_of cut) (all-found cut.size cut.files some)))
 
 -- ---- each triple has the value that its name tells
 

@@ -8,5 +8,4 @@ pub mod Skips
 pub mod Good
 pub mod Certified
 pub mod Names
-pub mod Packed
 pub mod GoodLaws

@@ -1,6 +1,6 @@
 //! The sequential execution of a job. It stores no names while it reads, but one count for each
-//! record, and recomputes the names from the counts (`names.rt`). Keys get numbers as they come;
-//! they are sorted once, and a counting sort puts the names in order of their keys.
+//! record, and so gives each name a number (`mr_certform::RecordNames`). Keys get numbers as they
+//! come; they are sorted once, and a counting sort puts the names in order of their keys.
 #![tactic(auto)]
 
 ghost use Rattle.mr_sequential.specs.Laws.{KeysAreUnique, KeysRise, NamesRise};

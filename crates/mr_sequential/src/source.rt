@@ -1,22 +1,23 @@
-//! Collects the keys that a job emits for the records that are kept.
+//! Collects the keys that a job emits for the records that are kept, and the names of these pairs.
 ghost use Rattle.std.specs.Prelude.{◌≡◌, ◌+◌, ◌≤◌, ◌<◌, ◌^◌, ◌++◌, ◌∷◌, [], IfOk, OnOk, length};
 ghost use Rattle.std.specs.Prelude.{map};
 ghost use Rattle.mr_jobs.specs.Emissions.{emissions};
 ghost use Rattle.mr_jobs.specs.Hits.{IsLine};
+ghost use Rattle.mr_certform.specs.Packed.{names_from, names_of};
 ghost use Rattle.mr_sequential.specs.Names.{AreEmitted, triples_of};
 
-use mr_bytes::{Phase, Progress, Throttle};
+use mr_bytes::{Phase, Progress, RecordName, Throttle};
+use mr_certform::RecordNames;
 use mr_group::KeyColumn;
 use mr_jobs::{Emitter, Job, Mapper};
 use mr_splits::{KeptPlan, RecordAt};
 use std::alloc::{AllocError, Global};
 
-/// The keys of pairs, and each kept record's number of pairs. Records and counts give the names,
-/// and names give the values.
+/// The keys of pairs, and their names, which give the values.
 #[derive(Drop)]
 pub(crate) struct Emitted {
     pub keys: KeyColumn,
-    pub counts: Vec<u32>,
+    pub names: RecordNames,
 }
 
 /// Appends the keys of these pairs. A call, so that the loop keeps its values in registers.
@@ -35,6 +36,7 @@ fn push_keys(alloc: Global, pairs: Emitter<'_>, keys: &mut KeyColumn) -> Result<
 fn gather_record(
     alloc: Global,
     mapper: &mut Mapper<'_, '_>,
+    name: RecordName,
     line: RecordAt<'_>,
     emitted: &mut Emitted,
 ) -> Result<(), AllocError>
@@ -45,15 +47,15 @@ fn gather_record(
     ensures same { mapper.new ≡ mapper.old }
     ensures keys { OnOk result (emitted.new.keys ≡ emitted.old.keys ++ map (λ e. e.0)
         (emissions mapper.old.job line.entry.file line.entry.start line.entry.bytes.now)) }
-    ensures counts { OnOk result (emitted.new.counts.items ≡ emitted.old.counts.items ++ length
-        (emissions mapper.old.job line.entry.file line.entry.start line.entry.bytes.now) ∷ []) }
+    ensures names { OnOk result (names_of emitted.new.names ≡ names_of emitted.old.names
+        ++ names_from name 0 (length (emissions mapper.old.job line.entry.file line.entry.start
+        line.entry.bytes.now))) }
 {
     let before = emitted.keys.len();
     let pairs = mapper.emit(line.file, line.start, line.bytes)?;
     push_keys(alloc, pairs.emitter(), &mut emitted.keys)?;
     let count = emitted.keys.len() - before;
-    emitted.counts.push(count as u32)?;
-    Ok(())
+    emitted.names.push_record(name, count as u32)
 }
 
 fn gather_all(
@@ -65,24 +67,24 @@ fn gather_all(
 ) -> Result<(), AllocError>
     requires few { length (triples_of job.now kept.now) < 2 ^ 32 }
     requires no_keys { emitted.old.keys ≡ [] }
-    requires no_counts { emitted.old.counts.items ≡ [] }
-    ensures { OnOk result (AreEmitted job.now kept.now emitted.new.keys emitted.new.counts.items) }
+    requires no_names { names_of emitted.old.names ≡ [] }
+    ensures { OnOk result (AreEmitted job.now kept.now emitted.new.keys emitted.new.names) }
 {
     let plan = kept.plan();
     let mut left = kept.records();
     let mut pace = Throttle::new(Phase::Mapping, plan.count() as u64);
     let mut done = 0u64;
     let mut mapper = job.mapper(alloc, plan.input());
-    while let Some((_, line)) = left.next() {
+    while let Some((name, line)) = left.next() {
         pace.reach(done, watch);
         done = done.saturating_add(1);
-        gather_record(alloc, &mut mapper, line, emitted)?;
+        gather_record(alloc, &mut mapper, name, line, emitted)?;
     }
     Ok(())
 }
 
-/// The keys that a job emits for a plan's kept records, and each one's number of pairs. It reports
-/// to `watch` how many of the plan's records are done.
+/// The keys and names of the pairs that a job emits for a plan's kept records. It reports to `watch`
+/// how many of the plan's records are done.
 pub(crate) fn gather(
     alloc: Global,
     job: &Job,
@@ -90,11 +92,11 @@ pub(crate) fn gather(
     watch: &dyn Progress,
 ) -> Result<Emitted, AllocError>
     requires { length (triples_of job.now kept.now) < 2 ^ 32 }
-    ensures { IfOk result (λ e. AreEmitted job.now kept.now e.keys e.counts.items) }
+    ensures { IfOk result (λ e. AreEmitted job.now kept.now e.keys e.names) }
 {
     let mut emitted = Emitted {
         keys: KeyColumn::new(alloc),
-        counts: Vec::new(alloc),
+        names: RecordNames::new(alloc, kept.plan().count() as u32),
     };
     gather_all(alloc, job, kept, watch, &mut emitted)?;
     Ok(emitted)

@@ -1,11 +1,11 @@
 -- The records that are kept, one after another.
 use Rattle.std.proofs.Common.{◌≡◌, ◌⊎◌, inl, inr, sym, ℕ, zero, suc, ◌+◌, ◌-◌, ◌<◌, ◌≤◌, Bool, true, false, cond, not, List, [], ◌∷◌, ◌++◌, length, get_or, drop, refl, ◌∙◌, ap, arith, length-append}
-use Rattle.std.proofs.lemmas.List.{append-nil, length-replicate, drop_all, drop_more, get_or_append_left}
+use Rattle.std.proofs.lemmas.List.{append-nil, length-replicate, drop_more, get_or_append_left}
 use Rattle.mr_input.specs.Files.{split_total}
 use Rattle.mr_splits.specs.Named.{NamedRecord, of_split, is_left_out}
 use Rattle.mr_splits.specs.Cut.{records_of, nth_named, flags_of}
 use Rattle.mr_splits.specs.Laws.{joined_splits}
-use Rattle.mr_splits.specs.Kept.{Choice, kept_records, kept_from, kept_between, kept_numbers}
+use Rattle.mr_splits.specs.Kept.{Choice, kept_records, kept_from, kept_between}
 use Rattle.mr_splits.proofs.JoinedLemmas.{joined-suc, joined-zero, splits-join}
 
 joined-next : (rs : List NamedRecord) (s end : ℕ) → s < end
@@ -102,39 +102,6 @@ kept-all choice total some is =
     let e : total - 0 ≡ split_total choice.cut.size choice.cut.files = omega (arith, is) in
     ap (λ (n : ℕ). kept_records choice.skips (joined_splits 0 n (records_of choice.cut))) e
     ∙ ap (kept_records choice.skips) (splits-join choice.cut.size choice.cut.files some)
-
--- ---- by their numbers
-
-numbers-cons : (number : ℕ) (b : Bool) (flags : List Bool)
-    → kept_numbers number (b ∷ flags) ≡ cond b (kept_numbers (number + 1) flags) (number ∷ kept_numbers (number + 1) flags)
-unfolding kept_numbers
-numbers-cons number b flags = refl
-
-numbers-from : (flags : List Bool) (number : ℕ) → number < length flags
-    → kept_numbers number (drop number flags)
-    ≡ cond (get_or flags number false) (kept_numbers (number + 1) (drop (number + 1) flags)) (number ∷ kept_numbers (number + 1) (drop (number + 1) flags))
-numbers-from flags number h =
-    ap (kept_numbers number) (drop_more flags number false h) ∙ numbers-cons number (get_or flags number false) (drop (number + 1) flags)
-
--- a number that is kept is the first, and one that is left out is passed over
-pub number-kept : (flags : List Bool) (number : ℕ) → number < length flags → get_or flags number false ≡ false
-    → kept_numbers number (drop number flags) ≡ number ∷ kept_numbers (number + 1) (drop (number + 1) flags)
-number-kept flags number h kept =
-    let later : List ℕ = kept_numbers (number + 1) (drop (number + 1) flags) in
-    numbers-from flags number h ∙ ap (λ b. cond b later (number ∷ later)) kept
-
-pub number-left : (flags : List Bool) (number : ℕ) → number < length flags → get_or flags number false ≡ true
-    → kept_numbers number (drop number flags) ≡ kept_numbers (number + 1) (drop (number + 1) flags)
-number-left flags number h left =
-    let later : List ℕ = kept_numbers (number + 1) (drop (number + 1) flags) in
-    numbers-from flags number h ∙ ap (λ b. cond b later (number ∷ later)) left
-
-numbers-nil : (number : ℕ) → kept_numbers number [] ≡ []
-unfolding kept_numbers
-numbers-nil number = refl
-
-pub no-number : (flags : List Bool) (number : ℕ) → length flags ≤ number → kept_numbers number (drop number flags) ≡ []
-no-number flags number h = ap (kept_numbers number) (drop_all number flags h) ∙ numbers-nil number
 
 -- there are as many flags as records, also where they are kept as no list
 pub flags-count : (count : ℕ) (flags all : List Bool) → flags_of count flags ≡ all → (flags ≡ []) ⊎ (length flags ≡ count) → length all ≡ count

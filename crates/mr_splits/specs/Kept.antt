@@ -1,5 +1,5 @@
 -- The records that are kept, and the faults of a list of those that are left out.
-use Rattle.std.specs.Prelude.{ℕ, ◌+◌, ◌-◌, Bool, true, not, if◌then◌else◌, nat_lt, List, [], ◌∷◌, Option, None, Some, drop, filter, length}
+use Rattle.std.specs.Prelude.{ℕ, ◌-◌, Bool, true, not, if◌then◌else◌, nat_lt, List, [], ◌∷◌, Option, None, Some, drop, filter, length}
 use Rattle.std.specs.Ordering.{is_lt}
 use Rattle.mr_bytes.specs.declared.RecordName.{RecordName}
 use Rattle.mr_bytes.specs.Order.{record_order}
@@ -25,11 +25,6 @@ kept_between choice low end = kept_records choice.skips (joined_splits low (end 
 -- those from the record `number` of the split `low` on
 abbrev pub kept_from : Choice → ℕ → ℕ → ℕ → List NamedRecord
 kept_from choice low number end = kept_records choice.skips (drop number (joined_splits low (end - low) (records_of choice.cut)))
-
--- the numbers of the flags that are not set, the first of which has the given one
-unfoldable pub kept_numbers : ℕ → List Bool → List ℕ
-kept_numbers number [] = []
-kept_numbers number (b ∷ bs) = if b then kept_numbers (number + 1) bs else number ∷ kept_numbers (number + 1) bs
 
 -- the name is past the one before it
 abbrev pub is_past : Option RecordName → RecordName → Bool

@@ -2,11 +2,11 @@
 //! are a flag per record of the input, or nothing if all are kept.
 ghost use Rattle.std.specs.Prelude.{◌≡◌, ◌≢◌, ℕ, ◌+◌, ◌-◌, ◌≤◌, ◌<◌, ◌^◌, [], ◌∷◌, None, IfOk};
 ghost use Rattle.std.specs.Prelude.{IfNone, IfSome, IsOk, MatchOption, length, ◌||◌, Bool, false};
-ghost use Rattle.std.specs.Prelude.{drop, slice_index_or};
+ghost use Rattle.std.specs.Prelude.{slice_index_or};
 ghost use Rattle.mr_input.specs.Files.{split_total};
 ghost use Rattle.mr_splits.specs.Named.{is_left_out, of_split};
 ghost use Rattle.mr_splits.specs.Cut.{records_of, nth_named, has_record_name, left_out_flags};
-ghost use Rattle.mr_splits.specs.Kept.{first_fault, kept_between, kept_from, kept_numbers};
+ghost use Rattle.mr_splits.specs.Kept.{first_fault, kept_between, kept_from};
 ghost use Rattle.mr_splits.specs.Kept.{kept_records, list_fault, name_fault};
 
 use crate::plan::{Plan, RecordAt};
@@ -282,24 +282,6 @@ impl LeftOutSet {
         ensures { result ≡ slice_index_or self.now number false }
     {
         !self.flags.is_empty() && self.flags[number]
-    }
-
-    /// The first number from `from` on that is not left out, or `None` if there is none.
-    #[inline]
-    pub fn first_kept(&self, from: usize) -> Option<usize>
-        ensures first { MatchOption result (kept_numbers from (drop from self.now) ≡ [])
-            (λ n. kept_numbers from (drop from self.now)
-            ≡ n ∷ kept_numbers (n + 1) (drop (n + 1) self.now)) }
-        ensures few { IfSome result (λ n. n < 2 ^ 30) }
-    {
-        let mut number = from;
-        while number < self.count {
-            if !self.has(number) {
-                return Some(number);
-            }
-            number += 1;
-        }
-        None
     }
 }
 

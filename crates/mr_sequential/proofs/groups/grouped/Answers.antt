@@ -12,8 +12,8 @@ use Rattle.mr_group.specs.Buckets.{size}
 use Rattle.mr_group.specs.Interner.{key_at}
 use Rattle.mr_group.specs.Rows.{no_row, nth_row, row_key, row_part}
 use Rattle.mr_group.proofs.BucketLemmas.{before-all, before-sizes, size-count}
-use Rattle.mr_sequential.specs.Names.{names_by_counts, triples_of}
-use Rattle.mr_sequential.specs.Packed.{AreByRank, AreSizes}
+use Rattle.mr_certform.specs.Packed.{names_of}
+use Rattle.mr_sequential.specs.Names.{AreByRank, AreSizes, triples_of}
 use Rattle.mr_certform.proofs.Pieces.{length-chunks}
 use Rattle.std.proofs.lemmas.List.FromFn.{get_or-map-range_with_len, length-map-range_with_len}
 use Rattle.mr_sequential.specs.Certified.{groups_of, names_with}
@@ -142,9 +142,7 @@ returns c =
     let entries : c.in_ok-entry_counts.entry_counts.items ≡ sizes = c.in_ok-entry_counts.ensures ∙ c.as_slice-3.ensures.value in
     let by_rank : AreByRank (length sizes) (zip is (map (λ (t : Triple). t.name) ts)) names =
     subst (λ (l : List Name). AreByRank (length sizes) (zip is l) names) c.requires.names
-    (subst (λ (l : List ℕ). AreByRank (length sizes) (zip is (names_by_counts c.args.kept.now l)) names) c.as_slice-5.ensures.value
-    (subst (λ (l : List ℕ). AreByRank (length sizes) (zip l (names_by_counts c.args.kept.now c.as_slice-5.result.now)) names) c.as_slice-4.ensures.value
-    c.in_ok-names.ensures.buckets)) in
+    (subst (λ (l : List ℕ). AreByRank (length sizes) (zip l (names_of c.args.names)) names) c.as_slice-4.ensures.value c.in_ok-names.ensures.buckets) in
     are-grouped request ts rows is
     (record { group_counts = c.in_ok-group_counts.group_counts; entry_counts = c.in_ok-entry_counts.entry_counts; names = names })
     (omega (arith, c.parts.ensures.same, c.parts.ensures.within.0)) c.requires.ranks

@@ -78,7 +78,7 @@ texts_of-requires-clause-names c =
     subst (λ (l : List Row). HaveNames c.job.result.now c.plan.result.now (length l) g) (sym c.as_slice.ensures.value)
     (subst (λ (k : Cut). HaveNames c.job.result.now k (length c.in_ok-rows.rows.items) g) (sym c.plan.ensures)
     (subst (λ (j : JobSpec). HaveNames j c.args.kept.now.cut (length c.in_ok-rows.rows.items) g) (sym c.job.ensures.same)
-    (have-names request c.args.kept.now c.args.emitted.counts.items c.in_ok-rows.rows.items g c.requires.some c.requires.emitted.names_are c.in_ok-rows.ensures)))
+    (have-names request c.args.kept.now c.in_ok-rows.rows.items g c.requires.some c.in_ok-rows.ensures)))
 
 pub returns : goal.returns
 returns c =

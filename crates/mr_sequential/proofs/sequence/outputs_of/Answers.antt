@@ -42,4 +42,4 @@ outputs-requires-clause-few g c =
 
 pub outputs-requires-clause-emitted : goal.outputs-requires-clause-emitted
 outputs-requires-clause-emitted g c =
-    subst (λ (j : JobSpec). AreEmitted j c.args.kept.now c.in_ok-emitted.emitted.keys c.in_ok-emitted.emitted.counts.items) c.job.ensures.same c.in_ok-emitted.ensures
+    subst (λ (j : JobSpec). AreEmitted j c.args.kept.now c.in_ok-emitted.emitted.keys c.in_ok-emitted.emitted.names) c.job.ensures.same c.in_ok-emitted.ensures

@@ -9,15 +9,17 @@ use Rattle.mr_splits.specs.Named.{NamedRecord, is_left_out}
 use Rattle.mr_splits.specs.Cut.{Cut, records_of}
 use Rattle.mr_splits.specs.Kept.{kept_records}
 use Rattle.mr_bytes.specs.Pairs.{Triple}
-use Rattle.mr_sequential.specs.Names.{names_by_counts, pair_count, triples_of}
+use Rattle.mr_bytes.specs.declared.Name.{Name}
+use Rattle.mr_certform.specs.Packed.{names_from, names_of}
+use Rattle.mr_sequential.specs.Names.{record_names, triples_of}
 use Rattle.mr_sequential.specs.Pairs.{record_keys}
 use Rattle.mr_sequential.proofs.LineLemmas.{Stands, records-stand}
-use Rattle.mr_sequential.proofs.SourceLemmas.{kept-keys, kept-names, next_counted, next_gathered, last_gathered}
+use Rattle.mr_sequential.proofs.SourceLemmas.{kept-keys, kept-names, next_gathered, last_gathered}
 use Rattle.mr_sequential.proofs.source.gather_all.Goals as goal
-use Rattle.std.proofs.lemmas.List.{append-nil, length-map, length-append}
+use Rattle.std.proofs.lemmas.List.{length-map, length-append}
 
-pub loop-line-init : goal.loop-line-init
-loop-line-init g c =
+pub loop-name-init : goal.loop-name-init
+loop-name-init g c =
     let cut : Cut = c.args.kept.now.cut in
     let f : NamedRecord → List (List ℕ) = record_keys c.args.job.now in
     let start : c.records-left.result ≡ kept_records c.args.kept.now.skips (records_of cut) = c.records-left.ensures in
@@ -27,7 +29,8 @@ loop-line-init g c =
       lines = subst (All (Stands cut.files)) (sym start)
           (All-filter (λ r. not (is_left_out c.args.kept.now.skips r.name)) (Stands cut.files) (records_of cut) (records-stand cut.size cut.files));
       mapper = c.mapper-mapper.ensures ∙ ap (λ (fs : List (List ℕ)). record { job = c.args.job.now; files = fs }) files;
-      counts = ap (λ (l : List ℕ). l ++ map (pair_count c.args.job.now) c.records-left.result) c.requires.no_counts ∙ ap (map (pair_count c.args.job.now)) start;
+      names = ap (λ (l : List Name). l ++ flat_map (record_names c.args.job.now) c.records-left.result) c.requires.no_names
+          ∙ ap (flat_map (record_names c.args.job.now)) start;
     }
 
 -- the next record is a line of its file
@@ -37,9 +40,9 @@ next_line files left later r is lines = All-head (Stands files) r later (subst (
 pub gather_record-requires-clause-line : goal.gather_record-requires-clause-line
 gather_record-requires-clause-line g c =
     let line = c.in-Some.line in
-    let r : NamedRecord = record { name = c.in-Some.field-0-0; file = line.file; start = line.start; bytes = line.bytes.now } in
-    let stands = next_line c.args.kept.now.cut.files c.loop-line.left c.next.new.self r c.in-Some.ensures.next c.loop-line.invariant.lines in
-    subst (λ (m : Source). IsLine m.files line.file line.start line.bytes.now) (sym c.loop-line.invariant.mapper) stands
+    let r : NamedRecord = record { name = c.in-Some.name; file = line.file; start = line.start; bytes = line.bytes.now } in
+    let stands = next_line c.args.kept.now.cut.files c.loop-name.left c.next.new.self r c.in-Some.ensures.next c.loop-name.invariant.lines in
+    subst (λ (m : Source). IsLine m.files line.file line.start line.bytes.now) (sym c.loop-name.invariant.mapper) stands
 
 pub gather_record-requires-clause-few : goal.gather_record-requires-clause-few
 gather_record-requires-clause-few g c =
@@ -48,12 +51,12 @@ gather_record-requires-clause-few g c =
     let rs : List NamedRecord = records_of c.args.kept.now.cut in
     let f : NamedRecord → List (List ℕ) = record_keys job in
     let line = c.in-Some.line in
-    let r : NamedRecord = record { name = c.in-Some.field-0-0; file = line.file; start = line.start; bytes = line.bytes.now } in
+    let r : NamedRecord = record { name = c.in-Some.name; file = line.file; start = line.start; bytes = line.bytes.now } in
     omega (
       arith,
-      ap (λ (m : Source). length (emissions m.job line.file line.start line.bytes.now)) c.loop-line.invariant.mapper,
-      ap length c.loop-line.invariant.keys,
-      length-append c.loop-line.emitted.keys (flat_map f c.loop-line.left),
+      ap (λ (m : Source). length (emissions m.job line.file line.start line.bytes.now)) c.loop-name.invariant.mapper,
+      ap length c.loop-name.invariant.keys,
+      length-append c.loop-name.emitted.keys (flat_map f c.loop-name.left),
       ap length (ap (flat_map f) c.in-Some.ensures.next),
       length-append (f r) (flat_map f c.next.new.self),
       length-map (emissions job line.file line.start line.bytes.now) (λ (e : Emission). e.0),
@@ -62,25 +65,26 @@ gather_record-requires-clause-few g c =
       c.requires.few,
     )
 
-pub loop-line-preserved : goal.loop-line-preserved
-loop-line-preserved g c =
+pub loop-name-preserved : goal.loop-name-preserved
+loop-name-preserved _ c =
     let f : NamedRecord → List (List ℕ) = record_keys c.args.job.now in
+    let g : NamedRecord → List Name = record_names c.args.job.now in
     let line = c.in-Some.line in
-    let r : NamedRecord = record { name = c.in-Some.field-0-0; file = line.file; start = line.start; bytes = line.bytes.now } in
+    let r : NamedRecord = record { name = c.in-Some.name; file = line.file; start = line.start; bytes = line.bytes.now } in
     let rs : List NamedRecord = kept_records c.args.kept.now.skips (records_of c.args.kept.now.cut) in
     let files : List (List ℕ) = c.args.kept.now.cut.files in
-    let job : c.loop-line.mapper.job ≡ c.args.job.now = ap (λ (m : Source). m.job) c.loop-line.invariant.mapper in
+    let job : c.loop-name.mapper.job ≡ c.args.job.now = ap (λ (m : Source). m.job) c.loop-name.invariant.mapper in
     let keys = c.in_ok-gather_record.ensures.keys
-    ∙ ap (λ j. c.loop-line.emitted.keys ++ map (λ (e : Emission). e.0) (emissions j line.file line.start line.bytes.now)) job in
-    let counts = c.in_ok-gather_record.ensures.counts
-    ∙ ap (λ j. c.loop-line.emitted.counts.items ++ length (emissions j line.file line.start line.bytes.now) ∷ []) job in
+    ∙ ap (λ j. c.loop-name.emitted.keys ++ map (λ (e : Emission). e.0) (emissions j line.file line.start line.bytes.now)) job in
+    let names = c.in_ok-gather_record.ensures.names
+    ∙ ap (λ j. names_of c.loop-name.emitted.names ++ names_from r.name 0 (length (emissions j line.file line.start line.bytes.now))) job in
     record {
-      lines = All-tail (Stands files) r c.next.new.self (subst (All (Stands files)) c.in-Some.ensures.next c.loop-line.invariant.lines);
-      mapper = c.gather_record.ensures.same ∙ c.loop-line.invariant.mapper;
-      keys = next_gathered f c.loop-line.emitted.keys c.gather_record.new.emitted.keys (f r) (flat_map f rs) c.loop-line.left c.next.new.self r
-          c.in-Some.ensures.next refl keys c.loop-line.invariant.keys;
-      counts = next_counted (pair_count c.args.job.now) c.loop-line.emitted.counts.items c.gather_record.new.emitted.counts.items (map (pair_count c.args.job.now) rs)
-          c.loop-line.left c.next.new.self r c.in-Some.ensures.next counts c.loop-line.invariant.counts;
+      lines = All-tail (Stands files) r c.next.new.self (subst (All (Stands files)) c.in-Some.ensures.next c.loop-name.invariant.lines);
+      mapper = c.gather_record.ensures.same ∙ c.loop-name.invariant.mapper;
+      keys = next_gathered f c.loop-name.emitted.keys c.gather_record.new.emitted.keys (f r) (flat_map f rs) c.loop-name.left c.next.new.self r
+          c.in-Some.ensures.next refl keys c.loop-name.invariant.keys;
+      names = next_gathered g (names_of c.loop-name.emitted.names) (names_of c.gather_record.new.emitted.names) (g r) (flat_map g rs) c.loop-name.left c.next.new.self r
+          c.in-Some.ensures.next refl names c.loop-name.invariant.names;
     }
 
 pub returns : goal.returns
@@ -88,13 +92,11 @@ returns g c =
     let job : JobSpec = c.args.job.now in
     let skips : List RecordName = c.args.kept.now.skips in
     let rs : List NamedRecord = records_of c.args.kept.now.cut in
-    let left : List NamedRecord = c.loop-line.left in
-    let counts : List ℕ = c.loop-line.emitted.counts.items in
+    let left : List NamedRecord = c.loop-name.left in
     let none : left ≡ [] = c.in_default.ensures.next in
-    let all : counts ≡ map (pair_count job) (kept_records skips rs) =
-    sym (ap (λ (l : List NamedRecord). counts ++ map (pair_count job) l) none ∙ append-nil counts) ∙ c.loop-line.invariant.counts in
     record {
-      keys_are = last_gathered (record_keys job) c.loop-line.emitted.keys (flat_map (record_keys job) (kept_records skips rs)) left none c.loop-line.invariant.keys
+      keys_are = last_gathered (record_keys job) c.loop-name.emitted.keys (flat_map (record_keys job) (kept_records skips rs)) left none c.loop-name.invariant.keys
           ∙ kept-keys job skips rs;
-      names_are = ap (names_by_counts c.args.kept.now) all ∙ kept-names job skips rs;
+      names_are = last_gathered (record_names job) (names_of c.loop-name.emitted.names) (flat_map (record_names job) (kept_records skips rs)) left none c.loop-name.invariant.names
+          ∙ kept-names job skips rs;
     }
