@@ -14,7 +14,7 @@ use Rattle.mr_spill.specs.Cursor.{AreAhead, EndsWithKey, IsNextOf, IsOpened, len
 use Rattle.mr_spill.specs.Lent.{RegionText}
 use Rattle.mr_spill.specs.Regions.{RisesUnderKeys}
 use Rattle.mr_spill.specs.Spelling.{SpellsRegion}
-use Rattle.mr_spill.proofs.CursorLemmas.{IsWalk, some-is, walk-start}
+use Rattle.mr_spill.proofs.CursorLemmas.{none-some, some-is}
 use Rattle.mr_spill.proofs.ReadingLemmas.{spells-one}
 use Rattle.mr_merge.specs.declared.reduction.Gathering.{Gathering}
 use Rattle.mr_merge.specs.Bytes.{AreSpelled}
@@ -31,9 +31,6 @@ use Rattle.mr_group.proofs.ListLemmas.{All-more}
 All-names : (P : Name → Type 0) (ts : List Triple) (t : Triple) → AllByRecursion P (names_of ts) → P t.name → AllByRecursion P (names_of (ts ++ t ∷ []))
 All-names P ts t all p = subst (AllByRecursion P) (sym (map-append (λ (u : Triple). u.name) ts (t ∷ []))) (All-more P (names_of ts) t.name all p)
 
-none-some : (p : RegionPair) → ◌≡◌ {A = Option RegionPair} None (Some p) → ⊥
-none-some p e = cc e
-
 pub begun-more : (partition : ℕ) (region : RegionText) (was past : Bool) (old now new : Gathering) (cursor later : RegionCursor) (p : RegionPair)
     → IsBegun partition region was old now cursor → IsNextOf (lent_pair p) cursor later → later.last ≡ Some p
     → IsPut old.last p past now new → IsBegun partition region (was && past) old new later
@@ -46,6 +43,7 @@ begun-more partition region was past old now new cursor later p b next last put 
     up_to = All-names (IsUpTo new.last) b.taken (lent_pair p) (All-weaker (IsUpTo now.last) (IsUpTo new.last) (names_of b.taken) put.up b.takes.up_to) put.it;
   };
   on = λ us a. subst (SpellsRegion region.bytes region.split partition) (sym (append_assoc b.taken (lent_pair p ∷ []) us)) (b.on (lent_pair p ∷ us) (next.on us a));
+  left = λ ts h. let was = b.left ts h in let n = next.only was.0 was.1 in (n.0, n.2);
   key = λ q e. subst (λ (r : RegionPair). EndsWithKey new.pairs r.key.now) (some-is p q (sym last ∙ e)) put.key;
 }
 
@@ -56,6 +54,7 @@ begun-start partition region all cursor bytes split o b s = record {
   taken = [];
   takes = record { is = sym (append-nil all.pairs); past = λ _. tt; before = λ n h. h; up_to = tt };
   on = λ us a. subst (λ (w : ℕ). SpellsRegion region.bytes w partition us) s (subst (λ (l : List ℕ). SpellsRegion l split partition us) b (o.on us a));
+  left = λ ts h. (ts, o.only ts (subst (λ (w : ℕ). SpellsRegion bytes w partition ts) (sym s) (subst (λ (l : List ℕ). SpellsRegion l region.split partition ts) (sym b) h)));
   key = λ p e. absurd (none-some p (sym o.none ∙ e));
 }
 
@@ -152,12 +151,3 @@ spelled-rise partition (r ∷ rs) (v ∷ vs) a = (a.0.rise, spelled-rise partiti
 
 pub spelled-sound : (partition : ℕ) (rs : List RegionText) (vs : List (List Triple)) → AreSpelled partition rs vs → NamesDiffer (joined vs) → AreSound vs
 spelled-sound partition rs vs a d = record { in_order = spelled-rise partition rs vs a; names_differ = d }
-
--- ---- what is still to come of a region
-
-pub walk-of : (partition : ℕ) (region : RegionText) (cursor : RegionCursor) (bytes : List ℕ) (split count : ℕ)
-    → IsOpened bytes split partition cursor → bytes ≡ region.bytes → split ≡ region.split → ((ts : List Triple) → AreAhead cursor ts → count ≡ length ts)
-    → IsWalk region.bytes region.split partition cursor 0 count
-walk-of partition region cursor bytes split count o b s l =
-    subst (λ (w : ℕ). IsWalk region.bytes w partition cursor 0 count) s
-    (subst (λ (w : List ℕ). IsWalk w split partition cursor 0 count) b (walk-start bytes split partition cursor count o l))

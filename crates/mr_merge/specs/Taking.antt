@@ -46,6 +46,7 @@ pub record IsBegun (partition : ℕ) (region : RegionText) (in_turn : Bool) (old
   pub taken : List Triple
   pub takes : Takes taken in_turn old new
   pub on : (us : List Triple) → AreAhead cursor us → SpellsRegion region.bytes region.split partition (taken ++ us)
+  pub left : (ts : List Triple) → SpellsRegion region.bytes region.split partition ts → (us : List Triple) × AreAhead cursor us
   pub key : (p : RegionPair) → cursor.last ≡ Some p → EndsWithKey new.pairs p.key.now
 
 -- all those of a region were taken; where it is in turn, their names differ

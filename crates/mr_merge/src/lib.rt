@@ -12,7 +12,6 @@
 
 mod distinct;
 mod merged;
-mod merging;
 mod reduction;
 
 pub use merged::{MergeFault, merge, merge_law, worked_groups};

@@ -102,13 +102,9 @@ fn take_region(
         return Ok(None);
     };
     let before = all.last;
-    let count = cursor.left();
     let mut in_turn = true;
     names.clear();
-    for _ in 0..count {
-        let Some(pair) = cursor.next() else {
-            return Ok(None);
-        };
+    while let Some(pair) = cursor.next() {
         names.push(pair.name)?;
         let past = take_pair(all, before, pair)?;
         in_turn = in_turn && past;

@@ -1,7 +1,6 @@
 //! Regions merged. Each line of standard input is one, five numbers for each of its pairs: the byte of its key, its split
-//! and place, and the file and offset that its value tells. A line tells each region's names, and how many pairs are in one
-//! with room for them; then come the groups, and all names, or the fault. Or each line is a split, and the bytes of a region
-//! of partition 0, as numbers; then the groups come alone.
+//! and place, and the file and offset that its value tells. A line tells the groups, and all names, or the fault. Or each
+//! line is a split, and the bytes of a region of partition 0, as numbers.
 use crate::regions::{bytes_of, numbers_of};
 use crate::telling::Teller;
 use mr_bytes::{Name, Value};
@@ -53,13 +52,6 @@ fn add_regions(teller: &Teller, regions: &mut Vec<PairColumns>) -> io::Result<()
     Ok(())
 }
 
-fn show_region(teller: &Teller, region: &PairColumns) -> Result<(), AllocError> {
-    let none = PairColumns::new(teller.alloc());
-    teller.before(&region.names(), " ");
-    teller.two(&none.len(), &none.names());
-    Ok(())
-}
-
 /// The regions, lent.
 fn lent(alloc: Global, regions: &[PairColumns]) -> Result<Vec<&PairColumns>, AllocError> {
     let mut lent = Vec::new(alloc);
@@ -101,9 +93,6 @@ fn show_merged(teller: &Teller, merged: Result<Groups, MergeFault>) {
 }
 
 fn show(teller: &Teller, regions: &[PairColumns]) -> Result<(), AllocError> {
-    for region in regions {
-        show_region(teller, region)?;
-    }
     let lent = lent(teller.alloc(), regions)?;
     show_merged(teller, merge(teller.alloc(), &lent));
     Ok(())

@@ -63,9 +63,9 @@ fn walks_on(bytes: &[u8], split: u32, partition: u32) -> bool {
     let Some(mut walk) = open_region(bytes, split, partition) else {
         return false;
     };
-    for _ in 0..walk.left() {
+    for _ in 0..bytes.len() {
         if walk.next().is_none() {
-            return false;
+            break;
         }
     }
     walk.is_at_end()

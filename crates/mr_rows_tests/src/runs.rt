@@ -2,9 +2,9 @@
 //! resources of a log, 3 for these by host), how many partitions there are, the size of a split, and how many pairs a run has at most,
 //! 0 for as many as there are where nobody says; behind them may be a list of the records that each split leaves out.
 //! Standard input is the files, each ended by a byte 0. For each split a line tells the bytes of its regions,
-//! those of all partitions run by run; and for each partition a line its text, how many names each group has, all names,
-//! the groups one by one, and the first three again. Where nobody says how many pairs a run has, what comes of a region
-//! twice and of one without its first byte is told too.
+//! those of all partitions run by run; and for each partition a line its text, how many names each group has, and all
+//! names. Where nobody says how many pairs a run has, what comes of a region twice and of one without its first byte is
+//! told too.
 
 use crate::inputs::{input, numbers_of};
 use crate::regions::numbers_of as numbers_in;
@@ -91,32 +91,12 @@ fn show_regions(teller: &Teller, output: &MapOutput) {
     teller.end_line();
 }
 
-/// Tells the groups one by one.
-fn show_groups(teller: &Teller, reduced: &ReduceOutput) {
-    let mut groups = reduced.groups();
-    for _ in 0..u64::MAX {
-        match groups.next() {
-            Some(names) => teller.before(&names, ";"),
-            None => break,
-        }
-    }
-}
-
-fn show_parts(teller: &Teller, reduced: ReduceOutput) {
-    let (text, counts, names) = reduced.into_parts();
-    teller.behind("|", &text);
-    teller.behind("|", &counts);
-    teller.named("|", &names);
-}
-
-/// Tells all that there is, the groups one by one, and all again.
-fn show_output(teller: &Teller, reduced: ReduceOutput) {
+/// Tells the text, how many names each group has, and all names.
+fn show_output(teller: &Teller, reduced: &ReduceOutput) {
     let (counts, names) = reduced.flat_groups();
     teller.before(&reduced.text(), "|");
     teller.before(&counts, "|");
-    teller.before(&names, "|");
-    show_groups(teller, &reduced);
-    show_parts(teller, reduced);
+    teller.one(&names);
 }
 
 fn show_fault(teller: &Teller, job: &Job, regions: &[RegionView<'_>]) {
@@ -150,7 +130,7 @@ fn show_reduced(
 ) -> Result<(), AllocError> {
     let regions = regions_of(teller.alloc(), outputs, partition)?;
     match reduce_task(teller.alloc(), job, partition, regions.as_slice()) {
-        Ok(reduced) => show_output(teller, reduced),
+        Ok(reduced) => show_output(teller, &reduced),
         Err(fault) => teller.one(&fault),
     }
     Ok(())

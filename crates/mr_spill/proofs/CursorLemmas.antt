@@ -1,5 +1,5 @@
 -- A pair taken from the front of what is still to come.
-use Rattle.std.proofs.Common.{◌≡◌, ℕ, suc, ◌+◌, ◌<◌, ◌≤◌, length, List, [], ◌∷◌, ◌++◌, Option, Some, None, refl, sym, ◌∙◌, ap, subst, arith, append_assoc}
+use Rattle.std.proofs.Common.{◌≡◌, ℕ, suc, List, [], ◌∷◌, ◌++◌, Option, Some, None, refl, sym, ◌∙◌, ap, subst, arith, append_assoc}
 use Rattle.std.specs.List.{AllByRecursion, flat_map}
 use Rattle.std.specs.declared.cmp.Ordering.TheVariants.{Less}
 use Rattle.mr_bytes.specs.Lists.{Rises}
@@ -44,7 +44,7 @@ not-next old t rest text fit refused (u ∷ us) a =
 pub next-of : (p : RegionPair) (old new : RegionCursor) → new.last ≡ Some p → new.split ≡ old.split → old.left ≡ suc new.left
     → old.rest.now ≡ pair_bytes (lent_pair p) ++ new.rest.now → PairFits (lent_pair p) → p.name.split ≡ old.split → IsBehind old.last p.key.now p.name
     → IsNextOf (lent_pair p) old new
-next-of p old new last split left text fit own behind = record { on = on; only = only }
+next-of p old new last split left text fit own behind = record { on = on; only = only; fewer = omega (arith, left) }
   where
     on : (us : List Triple) → AreAhead new us → AreAhead old (lent_pair p ∷ us)
     on us a = record {
@@ -70,51 +70,9 @@ next-of p old new last split left text fit own behind = record { on = on; only =
           },
         )
 
--- ---- a walk to the end
-
--- what is still to come makes a region of the bytes, and whatever they spell, it is still to come behind so many pairs of so many
-pub record IsWalk (bytes : List ℕ) (split partition : ℕ) (cursor : RegionCursor) (gone count : ℕ) : Type 0 where
-  pub on : (us : List Triple) → AreAhead cursor us → (ts : List Triple) × SpellsRegion bytes split partition ts
-  pub left : (ts : List Triple) → SpellsRegion bytes split partition ts → (us : List Triple) × AreAhead cursor us × (length us + gone ≡ count)
-
-pub walk-start : (bytes : List ℕ) (split partition : ℕ) (cursor : RegionCursor) (count : ℕ) → IsOpened bytes split partition cursor
-    → ((ts : List Triple) → AreAhead cursor ts → count ≡ length ts) → IsWalk bytes split partition cursor 0 count
-walk-start bytes split partition cursor count o l = record {
-  on = λ us a. (us, o.on us a);
-  left = λ ts h. let a = o.only ts h in (ts, a, omega (arith, l ts a));
-}
-
-pub walk-more : (bytes : List ℕ) (split partition : ℕ) (cursor later : RegionCursor) (t : Triple) (gone count : ℕ) → IsNextOf t cursor later
-    → IsWalk bytes split partition cursor gone count → IsWalk bytes split partition later (gone + 1) count
-walk-more bytes split partition cursor later t gone count n w = record {
-  on = λ us a. w.on (t ∷ us) (n.on us a);
-  left = λ ts h.
-      let was = w.left ts h in
-      let next = n.only was.0 was.1 in
-      let len : length was.0 ≡ suc (length next.0) = ap length next.1 in
-      (next.0, next.2, omega (arith, was.2, len));
-}
-
-pub walk-none : (bytes : List ℕ) (split partition : ℕ) (cursor : RegionCursor) (gone count : ℕ) → ((ts : List Triple) → AreAhead cursor ts → ts ≡ []) → gone < count
-    → IsWalk bytes split partition cursor gone count → (ts : List Triple) → SpellsRegion bytes split partition ts → ⊥
-walk-none bytes split partition cursor gone count none less w ts h =
-    let was = w.left ts h in
-    let empty : ◌≡◌ {A = ℕ} (length was.0) 0 = ap length (none was.0 was.1) in
-    omega (arith, was.2, empty, less)
-
-pub walk-end : (bytes : List ℕ) (split partition : ℕ) (cursor : RegionCursor) (gone count : ℕ) → (AreAhead cursor [] → ⊥) → count ≤ gone
-    → IsWalk bytes split partition cursor gone count → (ts : List Triple) → SpellsRegion bytes split partition ts → ⊥
-walk-end bytes split partition cursor gone count not all w ts h =
-    let was = w.left ts h in
-    not (subst (AreAhead cursor) (none-of-length was.0 (omega (arith, was.2, all))) was.1)
-  where
-    none-of-length : (us : List Triple) → length us ≡ 0 → us ≡ []
-    none-of-length [] e = refl
-    none-of-length (u ∷ us) e = absurd (omega (arith, e))
-
 -- ---- pairs that are kept
 
-none-some : (p : RegionPair) → ◌≡◌ {A = Option RegionPair} None (Some p) → ⊥
+pub none-some : (p : RegionPair) → ◌≡◌ {A = Option RegionPair} None (Some p) → ⊥
 none-some p e = cc e
 
 pub some-is : (p q : RegionPair) → Some p ≡ Some q → p ≡ q
@@ -123,16 +81,18 @@ some-is p q e = cc e
 -- the pairs of the bytes are those that were kept and those that are still to come
 pub record AreKept (bytes : List ℕ) (split partition : ℕ) (pairs : List Triple) (cursor : RegionCursor) : Type 0 where
   pub on : (us : List Triple) → AreAhead cursor us → SpellsRegion bytes split partition (pairs ++ us)
+  pub left : (ts : List Triple) → SpellsRegion bytes split partition ts → (us : List Triple) × AreAhead cursor us
   pub key : (p : RegionPair) → cursor.last ≡ Some p → EndsWithKey pairs p.key.now
 
 pub kept-start : (bytes : List ℕ) (split partition : ℕ) (cursor : RegionCursor) → IsOpened bytes split partition cursor → AreKept bytes split partition [] cursor
-kept-start bytes split partition cursor o = record { on = o.on; key = λ p e. absurd (none-some p (sym o.none ∙ e)) }
+kept-start bytes split partition cursor o = record { on = o.on; left = λ ts h. (ts, o.only ts h); key = λ p e. absurd (none-some p (sym o.none ∙ e)) }
 
 pub kept-more : (bytes : List ℕ) (split partition : ℕ) (pairs more : List Triple) (cursor later : RegionCursor) (p : RegionPair)
     → AreKept bytes split partition pairs cursor → IsNextOf (lent_pair p) cursor later → later.last ≡ Some p
     → more ≡ pairs ++ lent_pair p ∷ [] → EndsWithKey more p.key.now → AreKept bytes split partition more later
 kept-more bytes split partition pairs more cursor later p kept next last is ends = record {
   on = λ us a. subst (SpellsRegion bytes split partition) (sym (ap (λ (l : List Triple). l ++ us) is ∙ append_assoc pairs (lent_pair p ∷ []) us)) (kept.on (lent_pair p ∷ us) (next.on us a));
+  left = λ ts h. let was = kept.left ts h in let n = next.only was.0 was.1 in (n.0, n.2);
   key = λ q e. subst (λ (r : RegionPair). EndsWithKey more r.key.now) (some-is p q (sym last ∙ e)) ends;
 }
 

@@ -1,7 +1,7 @@
 -- Regions spelled one behind another.
 use Rattle.std.proofs.Common.{◌≡◌, ℕ, ◌+◌, ◌-◌, ◌<◌, ◌≤◌, List, [], ◌∷◌, ◌++◌, length, filter, take, drop, sym, ◌∙◌, ap, arith, ◌==◌, slice_range}
 use Rattle.std.proofs.lemmas.Grind.{flat_map-append}
-use Rattle.std.proofs.lemmas.List.{append-nil, append_assoc, get_or-drop, get_or_push, length-drop, length_push, take_more}
+use Rattle.std.proofs.lemmas.List.{append-nil, append_assoc, get_or-drop, length-drop, take_more}
 use Rattle.std.specs.List.{AllByRecursion, flat_map}
 use Rattle.mr_bytes.proofs.SortLaws.{sorted-Has_from}
 use Rattle.mr_bytes.specs.Pairs.{Triple, pair_order}
@@ -27,10 +27,6 @@ pub put-more : (old ts now new : List Triple) (i : ℕ) (t : Triple) → i < len
 put-more old ts now new i t h is was grown =
     grown ∙ ap (λ (l : List Triple). l ++ t ∷ []) was ∙ append_assoc old (take i ts) (t ∷ [])
     ∙ ap (λ (l : List Triple). old ++ l) (ap (λ (u : Triple). take i ts ++ u ∷ []) is ∙ sym (take_more ts i no_pair h))
-
-pub last-pair : (ts us : List Triple) (t : Triple) → us ≡ ts ++ t ∷ [] → nth_pair us (length us - 1) ≡ t
-last-pair ts us t is =
-    ap (λ (l : List Triple). nth_pair l (length l - 1)) is ∙ get_or_push ts t no_pair (length (ts ++ t ∷ []) - 1) (omega (arith, length_push ts t))
 
 -- ---- groups one behind another
 

@@ -8,7 +8,6 @@ use Rattle.std.specs.List.{zip}
 use Rattle.std.specs.Str.{bytes_eq}
 use Rattle.mr_bytes.specs.Pairs.{Triple}
 use Rattle.mr_group.specs.Buckets.{bucket}
-use Rattle.mr_spill.specs.Column.{names_of}
 use Rattle.mr_spill.specs.Entries.{Entry, beside, under_key}
 use Rattle.mr_group.specs.Column.{keyed}
 use Rattle.mr_spill.specs.Groups.{under}
@@ -32,13 +31,6 @@ beside-nth [] es i e t h same = absurd (omega (arith, h))
 beside-nth (k ∷ ks) [] i e t h same = absurd (omega (arith, same))
 beside-nth (k ∷ ks) (w ∷ es) zero e t h same = refl
 beside-nth (k ∷ ks) (w ∷ es) (suc i) e t h same = beside-nth ks es i e t (omega (arith, h)) (omega (arith, same))
-
--- the names of pairs are those that stand beside their keys
-pub names-beside : (ks : List (List ℕ)) (es : List Entry) → length es ≡ length ks → names_of (beside ks es) ≡ map (λ (e : Entry). e.1) es
-names-beside [] [] same = refl
-names-beside [] (e ∷ es) same = absurd (omega (arith, same))
-names-beside (k ∷ ks) [] same = absurd (omega (arith, same))
-names-beside (k ∷ ks) (e ∷ es) same = ap (λ l. e.1 ∷ l) (names-beside ks es (omega (arith, same)))
 
 pub keys-beside : (ks : List (List ℕ)) (es : List Entry) → length es ≡ length ks → map (λ (t : Triple). t.key) (beside ks es) ≡ ks
 keys-beside [] es same = refl

@@ -44,6 +44,7 @@ pub record AreAhead (cursor : RegionCursor) (ts : List Triple) : Type 0 where
 pub record IsNextOf (t : Triple) (old new : RegionCursor) : Type 0 where
   pub on : (us : List Triple) → AreAhead new us → AreAhead old (t ∷ us)
   pub only : (ts : List Triple) → AreAhead old ts → (us : List Triple) × (ts ≡ t ∷ us) × AreAhead new us
+  pub fewer : new.left < old.left
 
 -- the pairs that are still to come at first are those of the region that the bytes spell
 pub record IsOpened (bytes : List ℕ) (split partition : ℕ) (cursor : RegionCursor) : Type 0 where

@@ -6,7 +6,6 @@ pub mod Entries
 pub mod Groups
 pub mod Cut
 pub mod Lent
-pub mod Reading
 pub mod Regions
 pub mod Spelling
 pub mod WorkedBytes

@@ -1,6 +1,5 @@
 //! Walks a region pair by pair over its bytes, checking what it reads. Copies nothing.
-ghost use Rattle.std.specs.Prelude.{◌≡◌, ◌↔◌, ◌<◌, [], List, Some, IsTrue, MatchOption, false};
-ghost use Rattle.std.specs.Prelude.{length};
+ghost use Rattle.std.specs.Prelude.{◌≡◌, ◌↔◌, ◌<◌, [], List, Some, IsTrue, MatchOption};
 ghost use Rattle.mr_bytes.specs.Pairs.{Triple};
 ghost use Rattle.mr_spill.specs.Cursor.{AreAhead, IsBehind, IsKeyOf, IsNextOf, IsOpened, lent_pair};
 ghost use Rattle.mr_spill.specs.Spelling.{SpellsRegion};
@@ -89,9 +88,7 @@ pub fn open_region<'a>(bytes: &'a [u8], split: u32, partition: u32) -> Option<Re
         ((ts : List Triple) → SpellsRegion bytes.entry.now split partition ts → ⊥)
         (IsOpened bytes.entry.now split partition) }
 {
-    let Some((count, rest)) = take_header(bytes, split, partition) else {
-        return None;
-    };
+    let (count, rest) = take_header(bytes, split, partition)?;
     Some(RegionCursor {
         rest,
         split,
@@ -101,13 +98,6 @@ pub fn open_region<'a>(bytes: &'a [u8], split: u32, partition: u32) -> Option<Re
 }
 
 impl<'a> RegionCursor<'a> {
-    /// How many pairs are still to come, as the header says.
-    pub fn left(&self) -> u32
-        ensures { (ts : List Triple) → AreAhead self.now ts → result ≡ length ts }
-    {
-        self.left
-    }
-
     /// Whether no pair and no byte is left. If not, and no next pair comes, the region is damaged.
     pub fn is_at_end(&self) -> bool
         ensures { IsTrue result ↔ AreAhead self.now [] }
@@ -127,43 +117,15 @@ impl<'a> RegionCursor<'a> {
         if self.left == 0 {
             return None;
         }
-        let Some(front) = take_pair(self.rest) else {
-            return None;
-        };
-        if front.name.split != self.split {
+        let (pair, rest) = take_pair(self.rest)?;
+        if pair.name.split != self.split {
             return None;
         }
-        let Some(again) = turn_of(self.last, front.key, front.name) else {
-            return None;
-        };
-        let pair = RegionPair {
-            key: front.key,
-            value: front.value,
-            name: front.name,
-            again,
-        };
-        self.rest = front.rest;
+        let again = turn_of(self.last, pair.key, pair.name)?;
+        let pair = RegionPair { again, ..pair };
+        self.rest = rest;
         self.left -= 1;
         self.last = Some(pair);
         Some(pair)
     }
-}
-
-/// Whether bytes are a region of this split and partition. Walks over all of it.
-pub fn is_region(bytes: &[u8], split: u32, partition: u32) -> bool
-    ensures spelled { IsTrue result
-        → (ts : List Triple) × SpellsRegion bytes.now split partition ts }
-    ensures damaged { result ≡ false
-        → (ts : List Triple) → SpellsRegion bytes.now split partition ts → ⊥ }
-{
-    let Some(mut cursor) = open_region(bytes, split, partition) else {
-        return false;
-    };
-    let count = cursor.left();
-    for _ in 0..count {
-        let Some(_) = cursor.next() else {
-            return false;
-        };
-    }
-    cursor.is_at_end()
 }

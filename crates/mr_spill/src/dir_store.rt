@@ -66,11 +66,6 @@ impl<'a, R: Files> DirStore<'a, R> {
         })
     }
 
-    pub(crate) fn keeping(mut self, lock: Option<File>) -> DirStore<'a, R> {
-        self.lock = lock;
-        self
-    }
-
     /// The word of the worker's next number; worker numbers past the count share words.
     fn word(&self, worker: u32) -> &AtomicU64 {
         let at = worker as usize % self.next.len();
@@ -300,8 +295,9 @@ impl<'a, R: Files<File = File> + Sync> Scratch for DiskScratch<'a, R> {
         workers: u32,
     ) -> Result<DirStore<'a, R>, ScratchFault> {
         let lock = self.lock(alloc, dir)?;
-        let store = DirStore::new(self.rt, alloc, dir, workers)?;
-        Ok(store.keeping(lock))
+        let mut store = DirStore::new(self.rt, alloc, dir, workers)?;
+        store.lock = lock;
+        Ok(store)
     }
 }
 

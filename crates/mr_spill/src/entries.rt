@@ -1,5 +1,5 @@
 //! Values with their names: what pairs have beside their keys.
-ghost use Rattle.std.specs.Prelude.{◌≡◌, ◌++◌, ◌∷◌, [], ◌<◌, OnOk, OnErr, length, map, take};
+ghost use Rattle.std.specs.Prelude.{◌≡◌, ◌++◌, ◌∷◌, [], ◌<◌, OnOk, OnErr, length, take};
 ghost use Rattle.mr_spill.specs.Entries.{nth_entry};
 
 use mr_bytes::{Name, Value, ValueColumn};
@@ -68,13 +68,6 @@ impl Entries {
         ensures { result ≡ (nth_entry self.now i).1 }
     {
         self.names[i]
-    }
-
-    /// The names of all values, in order.
-    pub fn names(&self) -> &[Name]
-        ensures { result.now ≡ map (λ e. e.1) self.now }
-    {
-        &self.names
     }
 
     /// Appends a value. Fails only for want of memory, and then nothing has changed.

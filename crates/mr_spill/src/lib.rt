@@ -24,7 +24,7 @@ mod spelling;
 mod store;
 
 pub use buffer::{Buffer, PushFault, PushKeyFault};
-pub use cursor::{RegionCursor, RegionPair, RegionView, is_region, open_region};
+pub use cursor::{RegionCursor, RegionPair, RegionView, open_region};
 pub use dir_store::{DirStore, DiskScratch, MemoryScratch, Scratch, ScratchFault};
 pub use groups::{Groups, group_pairs};
 pub use pair_columns::PairColumns;

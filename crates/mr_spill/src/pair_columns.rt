@@ -4,7 +4,7 @@
 //!     values   names               one each per pair; the `One` in front are only counted
 ghost use Rattle.std.specs.Prelude.{◌≡◌, ◌-◌, ◌<◌, ◌++◌, ◌∷◌, [], IsTrue, OnOk};
 ghost use Rattle.std.specs.Prelude.{OnErr, length};
-ghost use Rattle.mr_spill.specs.Column.{names_of, nth_pair};
+ghost use Rattle.mr_spill.specs.Column.{nth_pair};
 ghost use Rattle.mr_spill.specs.Cursor.{EndsWithKey, lent_pair};
 
 use crate::cursor::RegionPair;
@@ -86,13 +86,6 @@ impl PairColumns {
         ensures { result ≡ (nth_pair self.now i).name }
     {
         self.entries.name(i)
-    }
-
-    /// The names of all pairs, in order.
-    pub fn names(&self) -> &[Name]
-        ensures { result.now ≡ names_of self.now }
-    {
-        self.entries.names()
     }
 
     /// Appends a pair. Fails only for want of memory, and then the pairs stay the same. Inlined:

@@ -2,11 +2,11 @@
 ghost use Rattle.std.specs.Prelude.{◌≡◌, ℕ, ◌<◌, ◌^◌, ◌++◌, List, IfErr, IfOk, MatchOption, length};
 ghost use Rattle.mr_bytes.specs.declared.Value.{Value as Carried};
 ghost use Rattle.mr_bytes.specs.Pairs.{Triple};
-ghost use Rattle.mr_spill.specs.Reading.{pair_of};
-ghost use Rattle.mr_spill.specs.Spelling.{PairFits, SpellsRegion, header, magic, name_bytes};
+ghost use Rattle.mr_spill.specs.Cursor.{lent_pair};
+ghost use Rattle.mr_spill.specs.Spelling.{PairFits, SpellsRegion, header, name_bytes};
 ghost use Rattle.mr_spill.specs.Spelling.{pair_bytes, u32 as four, u64 as eight, value_bytes};
 
-use crate::cursor::open_region;
+use crate::cursor::{RegionPair, open_region};
 use crate::pair_columns::PairColumns;
 use byteorder::{BigEndian, ByteOrder};
 use mr_bytes::{Name, Value};
@@ -33,15 +33,6 @@ impl From<AllocError> for RegionFault {
     fn from(_error: AllocError) -> RegionFault {
         RegionFault::OutOfMemory
     }
-}
-
-/// A pair at the front of bytes, and the bytes after it.
-#[derive(Drop)]
-pub(crate) struct Front<'a> {
-    pub key: &'a [u8],
-    pub value: Value,
-    pub name: Name,
-    pub rest: &'a [u8],
 }
 
 fn take_number<'a>(bytes: &'a [u8]) -> Option<(u32, &'a [u8])>
@@ -104,41 +95,29 @@ fn take_value<'a>(bytes: &'a [u8]) -> Option<(Value, &'a [u8])>
     Some((Value::At { file, offset }, rest))
 }
 
-pub(crate) fn take_pair<'a>(bytes: &'a [u8]) -> Option<Front<'a>>
+pub(crate) fn take_pair<'a>(bytes: &'a [u8]) -> Option<(RegionPair<'a>, &'a [u8])>
     ensures { MatchOption result ((t : Triple) (rest : List ℕ) → PairFits t
         → bytes.entry.now ≡ pair_bytes t ++ rest → ⊥)
-        (λ f. (bytes.entry.now ≡ pair_bytes (pair_of f) ++ f.rest.now) × PairFits (pair_of f)) }
+        (λ r. (bytes.entry.now ≡ pair_bytes (lent_pair (r.0)) ++ r.1.now) × PairFits (lent_pair (r.0))) }
 {
     let (count, behind_count) = take_number(bytes)?;
     let (key, behind_key) = take_key(behind_count, count)?;
     let (name, behind_name) = take_name(behind_key)?;
-    let Some((value, rest)) = take_value(behind_name) else {
-        return None;
-    };
-    Some(Front {
+    let (value, rest) = take_value(behind_name)?;
+    let pair = RegionPair {
         key,
         value,
         name,
-        rest,
-    })
+        again: false,
+    };
+    Some((pair, rest))
 }
 
-fn take_magic<'a>(bytes: &'a [u8]) -> Option<&'a [u8]>
-    ensures { MatchOption result ((rest : List ℕ) → bytes.entry.now ≡ magic ++ rest → ⊥)
-        (λ r. bytes.entry.now ≡ magic ++ r.now) }
+fn take_these<'a>(bytes: &'a [u8], these: &[u8]) -> Option<&'a [u8]>
+    ensures { MatchOption result ((rest : List ℕ) → bytes.entry.now ≡ these.now ++ rest → ⊥)
+        (λ r. bytes.entry.now ≡ these.now ++ r.now) }
 {
-    bytes.strip_prefix(b"MRREGN1\n".as_slice())
-}
-
-fn take_this<'a>(bytes: &'a [u8], number: u32) -> Option<&'a [u8]>
-    ensures { MatchOption result ((rest : List ℕ) → bytes.entry.now ≡ four number ++ rest → ⊥)
-        (λ r. bytes.entry.now ≡ four number ++ r.now) }
-{
-    let (n, rest) = take_number(bytes)?;
-    if n != number {
-        return None;
-    }
-    Some(rest)
+    bytes.strip_prefix(these)
 }
 
 /// The pair count in a header of this split and partition, and the bytes after it.
@@ -151,13 +130,10 @@ pub(crate) fn take_header<'a>(
         → bytes.entry.now ≡ header split partition n ++ rest → ⊥)
         (λ r. (bytes.entry.now ≡ header split partition (r.0) ++ r.1.now) × (r.0 < 2 ^ 32)) }
 {
-    let behind_magic = take_magic(bytes)?;
-    let Some(behind_split) = take_this(behind_magic, split) else {
-        return None;
-    };
-    let behind_partition = take_this(behind_split, partition)?;
-    let (count, rest) = take_number(behind_partition)?;
-    Some((count, rest))
+    let behind_magic = take_these(bytes, b"MRREGN1\n")?;
+    let behind_split = take_these(behind_magic, &split.to_be_bytes())?;
+    let behind_partition = take_these(behind_split, &partition.to_be_bytes())?;
+    take_number(behind_partition)
 }
 
 /// The pairs of a region of this split and partition. Any bytes but those that `write_region` gives
@@ -176,11 +152,7 @@ pub fn read_region(
         return Err(RegionFault::RegionDamaged);
     };
     let mut pairs = PairColumns::new(alloc);
-    let count = cursor.left();
-    for _ in 0..count {
-        let Some(pair) = cursor.next() else {
-            return Err(RegionFault::RegionDamaged);
-        };
+    while let Some(pair) = cursor.next() {
         pairs.take(pair)?;
     }
     if !cursor.is_at_end() {

@@ -10,17 +10,15 @@ use crate::pair_columns::PairColumns;
 use mr_bytes::By;
 use std::alloc::{AllocError, Global};
 
-/// Appends the pairs of group `g`; they share the bytes of its key.
+/// Appends the pairs of group `g`.
 fn put_group(groups: &Groups, g: usize, region: &mut PairColumns) -> Result<(), AllocError>
     requires { g < length groups.now }
     ensures { OnOk result (region.new ≡ region.old ++ (nth_group groups.now g).pairs) }
 {
-    let count = groups.count(g);
-    let (value, name) = groups.get(g, 0);
-    region.push(groups.key(g), value, name)?;
-    for i in 1..count {
+    let key = groups.key(g);
+    for i in 0..groups.count(g) {
         let (value, name) = groups.get(g, i);
-        region.push_again(value, name)?;
+        region.push(key, value, name)?;
     }
     Ok(())
 }
@@ -58,7 +56,7 @@ pub(crate) fn cut(
     let cut = cut_pairs(alloc, pairs, by, parts)?;
     let mut regions = Vec::with_capacity(alloc, parts as usize)?;
     for part in 0..parts as usize {
-        regions.push(region_of(alloc, &cut.groups, range_of(cut.ends.as_slice(), part))?)?;
+        regions.push(region_of(alloc, &cut.groups, range_of(&cut.ends, part))?)?;
     }
     Ok(regions)
 }

@@ -34,13 +34,6 @@ impl Model for SealedRun {
 }
 
 impl SealedRun {
-    /// The split of the run.
-    pub fn split(&self) -> u32
-        ensures { result ≡ self.now.split }
-    {
-        self.split
-    }
-
     /// How many partitions there are.
     pub fn parts(&self) -> usize
         ensures { result ≡ length self.now.regions }
@@ -66,49 +59,29 @@ impl SealedRun {
     }
 }
 
-/// How many pairs a region has, and how many bytes if all values of a key are of one kind.
-#[derive(Clone, Copy)]
-pub(crate) struct Size {
-    count: u32,
-    bytes: usize,
-}
-
-/// The size with the pairs of group `g`. Over 4 Gi pairs fail as want of memory.
-fn with_group(size: Size, groups: &Groups, g: usize) -> Result<Size, AllocError>
-    requires { g < length groups.now }
-    ensures { IfOk result (λ s. s.count ≡ size.count + length (nth_group groups.now g).pairs) }
-{
-    let more = groups.count(g);
-    if more > (u32::MAX - size.count) as usize {
-        return Err(AllocError);
-    }
-    let beside = if matches!(groups.value(g, 0), Value::One) {
-        17
-    } else {
-        29
-    };
-    let each = groups.key(g).len().saturating_add(beside);
-    Ok(Size {
-        count: size.count + more as u32,
-        bytes: size.bytes.saturating_add(more.saturating_mul(each)),
-    })
-}
-
-/// The size of the region of some groups that follow one another.
-fn size_of(groups: &Groups, begin: usize, end: usize) -> Result<Size, AllocError>
+/// How many pairs some groups that follow one another have, and how many bytes their region takes
+/// if all values of a key are of one kind. Over 4 Gi pairs fail as want of memory.
+fn size_of(groups: &Groups, begin: usize, end: usize) -> Result<(u32, usize), AllocError>
     requires order { begin ≤ end }
     requires within { end ≤ length groups.now }
-    ensures { IfOk result (λ s. s.count
-        ≡ length (flat_map pairs_of (slice_range groups.now begin end))) }
+    ensures { IfOk result (λ s. s.0 ≡ length (flat_map pairs_of (slice_range groups.now begin end))) }
 {
-    let mut size = Size {
-        count: 0,
-        bytes: 20,
-    };
+    let mut count = 0u32;
+    let mut bytes = 20usize;
     for g in begin..end {
-        size = with_group(size, groups, g)?;
+        let more = groups.count(g);
+        if more > (u32::MAX - count) as usize {
+            return Err(AllocError);
+        }
+        let is_one = matches!(groups.value(g, 0), Value::One);
+        let each = groups
+            .key(g)
+            .len()
+            .saturating_add(if is_one { 17 } else { 29 });
+        count += more as u32;
+        bytes = bytes.saturating_add(more.saturating_mul(each));
     }
-    Ok(size)
+    Ok((count, bytes))
 }
 
 /// Appends the pairs of group `g`.
@@ -140,9 +113,9 @@ fn spelled(
         (flat_map pairs_of (slice_range groups.now (range.0) (range.1))) v.items) }
 {
     let (begin, end) = range;
-    let size = size_of(groups, begin, end)?;
-    let mut text = Vec::with_capacity(alloc, size.bytes)?;
-    put_header(&mut text, split, part, size.count)?;
+    let (count, bytes) = size_of(groups, begin, end)?;
+    let mut text = Vec::with_capacity(alloc, bytes)?;
+    put_header(&mut text, split, part, count)?;
     for g in begin..end {
         spell_group(groups, g, &mut text)?;
     }
@@ -157,7 +130,7 @@ fn spelled_all(alloc: Global, cut: &Cut, split: u32) -> Result<Vec<Vec<u8>>, All
 {
     let mut texts = Vec::with_capacity(alloc, cut.ends.len())?;
     for part in 0..cut.ends.len() {
-        let range = range_of(cut.ends.as_slice(), part);
+        let range = range_of(&cut.ends, part);
         texts.push(spelled(alloc, &cut.groups, range, split, part as u32)?)?;
     }
     Ok(texts)

@@ -1,8 +1,8 @@
-use Rattle.mr_spill.proofs.CursorLemmas.{AreKept, IsWalk}
+use Rattle.mr_spill.proofs.CursorLemmas.{AreKept}
 use Rattle.mr_spill.proofs.reading.read_region.Given as goal
 
-abbrev pub invariant-loop : goal.invariant-loop
-invariant-loop l = record {
-  kept : AreKept l.bytes l.split l.partition l.pairs l.cursor;
-  walk : IsWalk l.bytes l.split l.partition l.cursor l.counter l.count;
-}
+abbrev pub invariant-loop-pair : goal.invariant-loop-pair
+invariant-loop-pair l = AreKept l.bytes l.split l.partition l.pairs l.cursor
+
+abbrev pub decreases-loop-pair : goal.decreases-loop-pair
+decreases-loop-pair l = l.cursor.left

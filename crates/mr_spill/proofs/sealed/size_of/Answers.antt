@@ -9,7 +9,7 @@ loop-g-preserved c =
     let gs : List Group = c.args.groups.now in
     let g : ℕ = c.loop-g.g in
     let more = ap length (groups-more gs c.args.begin g c.loop-g.auto.g (omega (arith, c.loop-g-test.true, c.requires.within))) in
-    omega (arith, c.in_ok-size.ensures, c.loop-g.invariant, more, length-append (flat_map pairs_of (slice_range gs c.args.begin g)) (nth_group gs g).pairs)
+    omega (arith, c.count-more.ensures.count, c.loop-g.invariant, more, length-append (flat_map pairs_of (slice_range gs c.args.begin g)) (nth_group gs g).pairs)
 
 pub loop-g-init : goal.loop-g-init
 loop-g-init c = sym (ap length (groups-none c.args.groups.now c.args.begin))

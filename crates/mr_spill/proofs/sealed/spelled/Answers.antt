@@ -28,8 +28,8 @@ loop-g-init c =
     let first : List ℕ = header c.args.split c.args.part (length (flat_map pairs_of (slice_range c.args.groups.now c.args.range.0 c.args.range.1))) in
     record {
       text = c.in_ok-put_header.ensures
-          ∙ ap (λ (l : List ℕ). l ++ header c.args.split c.args.part c.in_ok-size.size.count) c.in_ok-text.ensures.items
-          ∙ ap (header c.args.split c.args.part) c.in_ok-size.ensures
+          ∙ ap (λ (l : List ℕ). l ++ header c.args.split c.args.part c.in_ok-count.count) c.in_ok-text.ensures.items
+          ∙ ap (header c.args.split c.args.part) c.in_ok-count.ensures
           ∙ sym (append-nil first) ∙ ap (λ (ts : List Triple). first ++ flat_map pair_bytes ts) (sym (groups-none c.args.groups.now c.args.range.0));
       fit = subst (AllByRecursion PairFits) (sym (groups-none c.args.groups.now c.args.range.0)) tt;
     }
@@ -42,5 +42,5 @@ returns c =
     record {
       is = c.loop-g.invariant.text ∙ ap (λ (n : ℕ). first ++ flat_map pair_bytes (flat_map pairs_of (slice_range c.args.groups.now c.args.range.0 n))) end;
       fit = subst (λ (n : ℕ). AllByRecursion PairFits (flat_map pairs_of (slice_range c.args.groups.now c.args.range.0 n))) end c.loop-g.invariant.fit;
-      few = omega (arith, c.in_ok-size.ensures, c.ranges.split.fits);
+      few = omega (arith, c.in_ok-count.ensures, c.ranges.split.fits);
     }

@@ -3,34 +3,19 @@ use Rattle.std.proofs.lemmas.Bool.{cases_lt}
 use Rattle.std.proofs.lemmas.List.{get_or_append_left, get_or_push, length-map, length_push, map-append}
 use Rattle.std.specs.List.{flat_map}
 use Rattle.mr_bytes.specs.Pairs.{Triple}
-use Rattle.mr_spill.specs.Groups.{begin_of, pairs_of, piece}
+use Rattle.mr_spill.specs.Groups.{pairs_of, piece}
 use Rattle.mr_spill.specs.Sealed.{IsText}
 use Rattle.mr_spill.proofs.sealed.spelled_all.Goals as goal
 
-pub spelled-requires-clause-order : goal.spelled-requires-clause-order
-spelled-requires-clause-order c =
-    let ends : List ℕ = c.args.cut.now.ends.items in
-    let p : ℕ = c.loop-part.part in
-    let begin : c.range_of-range.result.0 ≡ begin_of ends p = c.range_of-range.ensures.begin ∙ ap (λ (l : List ℕ). begin_of l p) c.as_slice.ensures.value in
-    let end : c.range_of-range.result.1 ≡ get_or ends p 0 = c.range_of-range.ensures.end ∙ ap (λ (l : List ℕ). get_or l p 0) c.as_slice.ensures.value in
-    let within = c.requires.within p (omega (arith, c.loop-part-test.true, c.len-part-end.ensures, c.args.cut.now.ends.ok.0)) in
-    omega (arith, begin, end, within.0)
-
-pub spelled-requires-clause-within : goal.spelled-requires-clause-within
-spelled-requires-clause-within c =
-    let ends : List ℕ = c.args.cut.now.ends.items in
-    let p : ℕ = c.loop-part.part in
-    let begin : c.range_of-range.result.0 ≡ begin_of ends p = c.range_of-range.ensures.begin ∙ ap (λ (l : List ℕ). begin_of l p) c.as_slice.ensures.value in
-    let end : c.range_of-range.result.1 ≡ get_or ends p 0 = c.range_of-range.ensures.end ∙ ap (λ (l : List ℕ). get_or l p 0) c.as_slice.ensures.value in
-    let within = c.requires.within p (omega (arith, c.loop-part-test.true, c.len-part-end.ensures, c.args.cut.now.ends.ok.0)) in
-    omega (arith, end, within.1)
+pub spelled-requires : goal.spelled-requires
+spelled-requires c =
+    let within = c.requires.within c.loop-part.part (omega (arith, c.loop-part-test.true, c.len-part-end.ensures, c.args.cut.now.ends.ok.0)) in
+    record { order = omega (arith, within.0); within = omega (arith, within.1) }
 
 pub loop-part-preserved : goal.loop-part-preserved
 loop-part-preserved c =
     let ends : List ℕ = c.args.cut.now.ends.items in
     let p : ℕ = c.loop-part.part in
-    let begin : c.range_of-range.result.0 ≡ begin_of ends p = c.range_of-range.ensures.begin ∙ ap (λ (l : List ℕ). begin_of l p) c.as_slice.ensures.value in
-    let end : c.range_of-range.result.1 ≡ get_or ends p 0 = c.range_of-range.ensures.end ∙ ap (λ (l : List ℕ). get_or l p 0) c.as_slice.ensures.value in
     let was : List (List ℕ) = map (λ (b : Vec ℕ Global). b.items) c.loop-part.texts.items in
     let text : List ℕ = c.in_ok-spelled.field-0.items in
     let items : map (λ (b : Vec ℕ Global). b.items) c.push.new.self.items ≡ was ++ text ∷ [] =
@@ -46,7 +31,7 @@ loop-part-preserved c =
             (let here : p ≡ q = omega (arith, h, new) in
             subst (is q) (sym (ap (λ (l : List (List ℕ)). get_or l q []) items ∙ get_or_push was text [] q (long ∙ here)))
             (subst (λ (n : ℕ). is n text) here
-            (subst (λ (ts : List Triple). IsText c.args.split p ts text) (λ i. flat_map pairs_of (slice_range c.args.cut.now.groups (begin i) (end i))) c.in_ok-spelled.ensures)))
+            (subst (λ (ts : List Triple). IsText c.args.split p ts text) (λ i. flat_map pairs_of (slice_range c.args.cut.now.groups (c.range_of-range.ensures.begin i) (c.range_of-range.ensures.end i))) c.in_ok-spelled.ensures)))
       ];
     }
 

@@ -2,7 +2,7 @@ use Rattle.std.proofs.Common.{◌-◌, arith}
 use Rattle.mr_spill.specs.Column.{no_pair}
 use Rattle.mr_spill.proofs.RegionLaws.{pair_total}
 use Rattle.mr_spill.proofs.NameLemmas.{rises-more}
-use Rattle.mr_merge.proofs.merging.pairs_rise.Goals as goal
+use Rattle.mr_merge.proofs.merged.pairs_rise.Goals as goal
 use Rattle.mr_group.proofs.ListLemmas.{rises-at}
 use Rattle.mr_bytes.specs.Pairs.{pair_order}
 

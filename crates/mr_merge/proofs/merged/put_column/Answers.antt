@@ -2,7 +2,7 @@ use Rattle.std.proofs.Common.{◌≡◌, ℕ, List, [], ◌∷◌, ◌++◌, tak
 use Rattle.std.proofs.lemmas.List.{append_assoc, take_more}
 use Rattle.mr_bytes.specs.Pairs.{Triple}
 use Rattle.mr_spill.specs.Column.{no_pair, nth_pair}
-use Rattle.mr_merge.proofs.merging.put_column.Goals as goal
+use Rattle.mr_merge.proofs.merged.put_column.Goals as goal
 
 pub loop-i-preserved : goal.loop-i-preserved
 loop-i-preserved c =

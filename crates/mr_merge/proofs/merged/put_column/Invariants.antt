@@ -1,5 +1,5 @@
 use Rattle.std.proofs.Common.{◌≡◌, ◌++◌, take}
-use Rattle.mr_merge.proofs.merging.put_column.Given as goal
+use Rattle.mr_merge.proofs.merged.put_column.Given as goal
 
 abbrev pub invariant-loop-i : goal.invariant-loop-i
 invariant-loop-i l = l.all ≡ l.fn.all ++ take l.i l.column
