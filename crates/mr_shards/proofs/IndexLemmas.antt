@@ -1,8 +1,7 @@
 -- No line of an index is read: where lines of the job are a text, it is empty.
-use Rattle.std.proofs.Common.{◌≡◌, ◌++◌, ℕ, Bool, List, [], ◌∷◌, length, length-append, refl, ap, sym, ◌∙◌, arith, Option, None, map}
+use Rattle.std.proofs.Common.{◌≡◌, ℕ, Bool, List, [], ◌∷◌, ap, ◌∙◌, Option, None, map}
 use Rattle.std.specs.List.{AllByRecursion}
 use Rattle.mr_jobs.specs.JobSpec.{InvertedIndex}
-use Rattle.mr_reduce.specs.Text.{comma_separated, files_of}
 use Rattle.mr_shards.specs.Merged.{Group, texts}
 use Rattle.mr_shards.specs.Lines.{group_in, groups_in}
 use Rattle.mr_shards.specs.Refused.{IsLineOf, IsRest}

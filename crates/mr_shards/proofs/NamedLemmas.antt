@@ -1,6 +1,6 @@
 -- The named records of two lists of files, one behind the other.
-use Rattle.std.proofs.Common.{◌≡◌, ℕ, ◌+◌, ◌/◌, ◌<◌, ◌++◌, List, [], ◌∷◌, length, refl, ap, sym, ◌∙◌, subst, Bool, true, false, cond, eqb, map, filter, arith, inl, inr, Option, None, Some, ◌&&◌, ◌||◌}
-use Rattle.std.proofs.lemmas.Bool.{cases_eq, eq-eqb, ne_eqb, eqb-true, and_parts}
+use Rattle.std.proofs.Common.{◌≡◌, ℕ, ◌+◌, ◌/◌, ◌++◌, List, [], ◌∷◌, length, refl, ap, sym, ◌∙◌, cond, eqb, map, arith, inl, inr}
+use Rattle.std.proofs.lemmas.Bool.{cases_eq, eq-eqb, ne_eqb}
 use Rattle.std.proofs.lemmas.List.{append_assoc, map-append}
 use Rattle.mr_records.specs.Records.{Record, records}
 use Rattle.mr_input.specs.Files.{split_count, split_total}

@@ -3,7 +3,7 @@ use Rattle.std.proofs.Common.{◌≡◌, ℕ, suc, zero, ◌+◌, ◌-◌, ◌<�
 use Rattle.std.proofs.lemmas.Bool.{cases_eq, eq-eqb, ne_eqb}
 use Rattle.std.proofs.lemmas.List.{length-drop}
 use Rattle.mr_shards.specs.Gaps.{goes_on_at, note_at}
-use Rattle.mr_shards.specs.Portions.{Shift, past_files, shift_behind}
+use Rattle.mr_shards.specs.Portions.{past_files, shift_behind}
 use Rattle.mr_shards.specs.RangeNotes.{RangeNote, first_goes_on, goes_on}
 use Rattle.mr_shards.specs.RangeVerdicts.{end_of, file_lengths, last_goes_on, last_number, shift_past, with_length}
 use Rattle.mr_shards.proofs.TileLemmas.{goes-on}

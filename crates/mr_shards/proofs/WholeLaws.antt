@@ -1,13 +1,11 @@
 -- The groups of judged portions have lines, and what the text of lines of places is.
-use Rattle.std.proofs.Common.{◌≡◌, ℕ, suc, ◌<◌, ◌≤◌, ◌^◌, ◌++◌, List, [], ◌∷◌, length, refl, ap, sym, ◌∙◌, subst, inl, inr, ◌⊎◌, arith, Bool, true, false, cond, map, replicate, None}
+use Rattle.std.proofs.Common.{◌≡◌, ℕ, suc, ◌<◌, ◌≤◌, ◌^◌, ◌++◌, List, [], ◌∷◌, length, refl, ap, sym, ◌∙◌, subst, inl, inr, ◌⊎◌, arith, Bool, true, false, cond, map}
 use Rattle.std.proofs.lemmas.List.{append-nil}
 use Rattle.std.specs.List.{AllByRecursion, flat_map}
 use Rattle.std.specs.Str.{bytes_eq}
 use Rattle.mr_bytes.specs.declared.Value.{Value}
-use Rattle.mr_bytes.specs.declared.Value.TheVariants.{One}
-use Rattle.mr_bytes.specs.Lists.{Has, Rises}
-use Rattle.mr_bytes.specs.Order.{key_order}
-use Rattle.mr_jobs.specs.JobSpec.{JobSpec, RequestSpec, WordCount, LinesWith, Resources, InvertedIndex}
+use Rattle.mr_bytes.specs.Lists.{Has}
+use Rattle.mr_jobs.specs.JobSpec.{JobSpec, RequestSpec, LinesWith}
 use Rattle.mr_bytes.specs.Cut.{Lacks}
 use Rattle.mr_reduce.specs.Text.{place_line}
 use Rattle.mr_bytes.specs.Pairs.{Triple}

@@ -1,4 +1,4 @@
-use Rattle.std.proofs.Common.{◌≡◌, ◌<◌, ◌∙◌, length, false, true, sym, ap, arith}
+use Rattle.std.proofs.Common.{◌≡◌, ◌<◌, ◌∙◌, length, true, sym, ap, arith}
 use Rattle.mr_shards.specs.RangeNotes.{RangeNote, goes_on}
 use Rattle.mr_shards.specs.RangeVerdicts.{last_goes_on}
 use Rattle.mr_shards.proofs.PastLemmas.{end-first, goes-empty, goes-last, goes-none}
