@@ -7,7 +7,8 @@ use Rattle.mr_files.specs.Holding.{Holding, Stored}
 use Rattle.mr_files.specs.Names.{name_of_part}
 use Rattle.mr_jobs.specs.JobSpec.{JobSpec}
 use Rattle.mr_shards.specs.declared.merger.ShardText.{ShardText}
-use Rattle.mr_shards.specs.Merged.{merged_parts, texts}
+use Rattle.mr_shards.specs.Merged.{texts}
+use Rattle.mr_shards.specs.Portions.{merged_portions}
 use Rattle.mr_shards.specs.Outputs.{IsOutputOfAll, parts_in}
 use Rattle.mr_shards.specs.Refused.{IsRest}
 use Rattle.mr_shards.specs.Truth.{IsNoteOf}
@@ -45,7 +46,7 @@ pub record IsPartition (holds : Stored) (job : JobSpec) (names : List (List ℕ)
   pub told : Tells p vs parts
   pub outputs_are : AreOutputs vs parts outputs
   pub lines : AllByRecursion (λ o. IsRest job None o.text.now) outputs
-  pub merged : text ≡ texts job (merged_parts (parts_in job outputs))
+  pub merged : text ≡ texts job (merged_portions (parts_in job outputs))
   pub whole : IsOutputOfAll job outputs text
 
 -- those of the first partitions

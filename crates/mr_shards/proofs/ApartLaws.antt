@@ -4,11 +4,12 @@ use Rattle.std.specs.List.{AllByRecursion}
 use Rattle.std.specs.declared.cmp.Ordering.TheVariants.{Less}
 use Rattle.mr_bytes.specs.Order.{key_order}
 use Rattle.mr_jobs.specs.JobSpec.{JobSpec, counts}
-use Rattle.mr_shards.specs.Merged.{Group, moved_group}
+use Rattle.mr_shards.specs.Merged.{Group}
 use Rattle.mr_shards.specs.Pieces.{Bound, IsBefore, PartsNoKey, next_bound}
 use Rattle.mr_shards.proofs.MergedLaws.{keys}
 use Rattle.mr_shards.proofs.StepLemmas.{all-map}
 use Rattle.mr_shards.proofs.PlaceLemmas.{apart, follows, strict, strict-before}
+use Rattle.mr_shards.specs.Portions.{past_files, shifted_group}
 use Rattle.mr_shards.proofs.WovenLaws.{Precedes, with_line, with-behind, with-front, woven, woven-all, woven-append}
 
 abbrev pub Low : Option Bound → List Group → Type 0
@@ -42,7 +43,7 @@ module _ (job : JobSpec) (b : Option Bound) (together : counts job ≡ true → 
       woven-append (counts job) gs hs (xs ++ ys) ∙ ap (woven (counts job) gs) (woven-behind hs xs ys lx hh)
       ∙ woven-front gs xs (woven (counts job) hs ys) lg (woven-all (counts job) (λ k. IsBefore (strict b) k → ⊥) hs ys (high-strict b hs hh) hy)
 
-pub all-moved : (P : List ℕ → Type 0) (n : ℕ) (gs : List Group) → AllByRecursion P (keys gs) → AllByRecursion P (keys (map (moved_group n) gs))
+pub all-moved : (P : List ℕ → Type 0) (n : ℕ) (gs : List Group) → AllByRecursion P (keys gs) → AllByRecursion P (keys (map (shifted_group (past_files n)) gs))
 all-moved P n [] all = tt
 all-moved P n (g ∷ gs) all = (all.0, all-moved P n gs all.1)
 

@@ -1,8 +1,7 @@
 -- No line of an index is read: where lines of the job are a text, it is empty.
-use Rattle.std.proofs.Common.{◌≡◌, ◌++◌, ℕ, Bool, List, [], ◌∷◌, length, length-append, refl, ap, sym, ◌∙◌, arith, Option, None, map}
+use Rattle.std.proofs.Common.{◌≡◌, ℕ, Bool, List, [], ◌∷◌, ap, ◌∙◌, Option, None, map}
 use Rattle.std.specs.List.{AllByRecursion}
 use Rattle.mr_jobs.specs.JobSpec.{InvertedIndex}
-use Rattle.mr_reduce.specs.Text.{comma_separated, files_of}
 use Rattle.mr_shards.specs.Merged.{Group, texts}
 use Rattle.mr_shards.specs.Lines.{group_in, groups_in}
 use Rattle.mr_shards.specs.Refused.{IsLineOf, IsRest}
@@ -18,17 +17,3 @@ rest-empty keep_case last text r = by r.groups r.text_is r.lines
 pub rest-no_groups : (keep_case : Bool) (text : List ℕ) → IsRest (InvertedIndex keep_case) None text → groups_in (InvertedIndex keep_case) text ≡ []
 rest-no_groups keep_case text r =
     ap (groups_in (InvertedIndex keep_case)) (rest-empty keep_case None text r) ∙ ap (map (group_in (InvertedIndex keep_case))) lines-none
-
--- each group has a line, so an empty text is that of no groups
-pub no-text : (keep_case : Bool) (gs : List Group) → texts (InvertedIndex keep_case) gs ≡ [] → gs ≡ []
-no-text keep_case [] e = refl
-no-text keep_case (g ∷ gs) e =
-    let tail : List ℕ = comma_separated (files_of g.values) ++ 10 ∷ [] in
-    absurd (omega (arith, ap length e, length-append (g.key ++ 9 ∷ tail) (texts (InvertedIndex keep_case) gs), length-append g.key (9 ∷ tail)))
-
--- where the text of groups is one of lines of the job, there are none
-pub no-lines : (keep_case : Bool) (gs : List Group) → IsRest (InvertedIndex keep_case) None (texts (InvertedIndex keep_case) gs)
-    → groups_in (InvertedIndex keep_case) (texts (InvertedIndex keep_case) gs) ≡ gs
-no-lines keep_case gs r =
-    let none = no-text keep_case gs (rest-empty keep_case None (texts (InvertedIndex keep_case) gs) r) in
-    rest-no_groups keep_case (texts (InvertedIndex keep_case) gs) r ∙ sym none

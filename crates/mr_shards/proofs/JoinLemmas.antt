@@ -6,12 +6,12 @@ use Rattle.std.specs.List.{AllByRecursion}
 use Rattle.mr_bytes.specs.declared.RecordName.{RecordName}
 use Rattle.mr_bytes.specs.Lists.{Has}
 use Rattle.mr_jobs.specs.JobSpec.{RequestSpec}
-use Rattle.mr_shards.specs.Shards.{moved_name}
 use Rattle.mr_shards.specs.declared.joining.JoinFault.{JoinFault}
 use Rattle.mr_shards.specs.declared.joining.JoinFault.TheVariants.{OtherRequest, TooManySplits, TooManyPairs, OutOfMemory}
 use Rattle.mr_shards.specs.Verdict.{Note, Told}
 use Rattle.mr_shards.specs.Truth.{Asks}
 use Rattle.mr_shards.specs.Joined.{AreTooManySplits, GoTogether, IsCounted, IsJoinFault, IsJoined, inputs_of, left_out_from, no_verdict, pairs_of, splits_in, splits_told, verdict_at}
+use Rattle.mr_shards.specs.Spots.{moved_name}
 use Rattle.mr_shards.specs.Joining.{Follows, IsShardFault, IsTooFar}
 
 splits-append : (size : ℕ) (ns ms : List Note) → splits_told size (ns ++ ms) ≡ splits_told size ns + splits_told size ms

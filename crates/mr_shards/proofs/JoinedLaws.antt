@@ -1,22 +1,28 @@
 -- Joined verdicts are true of all files where each is true of its own.
-use Rattle.std.proofs.Common.{◌≡◌, ℕ, suc, ◌+◌, ◌-◌, ◌/◌, ◌<◌, ◌^◌, ◌++◌, List, [], ◌∷◌, length, length-append, map, refl, ap, sym, ◌∙◌, subst, arith}
-use Rattle.std.proofs.lemmas.List.{length-map, map-append}
+use Rattle.std.proofs.Common.{◌≡◌, ℕ, suc, ◌+◌, ◌-◌, ◌/◌, ◌<◌, ◌^◌, ◌++◌, List, [], ◌∷◌, length, length-append, map, false, refl, ap, sym, ◌∙◌, subst, arith}
+use Rattle.std.proofs.lemmas.List.{map-append}
 use Rattle.std.specs.List.{AllByRecursion}
 use Rattle.mr_bytes.specs.declared.RecordName.{RecordName}
 use Rattle.mr_bytes.specs.Lists.{Rises}
 use Rattle.mr_bytes.specs.Order.{record_order}
 use Rattle.mr_bytes.specs.Pairs.{Triple}
 use Rattle.mr_input.specs.Files.{split_count, split_total}
+use Rattle.mr_jobs.specs.Emissions.{Emission}
 use Rattle.mr_jobs.specs.JobSpec.{RequestSpec}
 use Rattle.mr_sequential.specs.Emitted.{emitted}
+use Rattle.mr_splits.specs.Named.{named_files}
 use Rattle.mr_sequential.specs.Sequential.{sequential}
 use Rattle.mr_shards.specs.declared.merger.ShardText.{ShardText}
 use Rattle.mr_shards.specs.Outputs.{AreOutputsOf, IsJudged}
-use Rattle.mr_shards.specs.Shards.{Shard, SkipsExist, files_of, moved_name, skips_of}
-use Rattle.mr_shards.proofs.EmittedLaws.{emitted-append, emitted-none, moved_triple}
-use Rattle.mr_shards.proofs.SkipLaws.{skips_stand}
 use Rattle.mr_shards.specs.Verdict.{Note, Told}
 use Rattle.mr_shards.specs.Truth.{AreNotesOf}
+use Rattle.mr_shards.specs.Spots.{SkipsExist, left_out_of, moved_name}
+use Rattle.mr_shards.specs.PortionLaws.{pairs_of as pairs_in, shifted_pair}
+use Rattle.mr_shards.specs.Portions.{AreCutAtLines, Portion, Shift, shift_of, whole_of}
+use Rattle.mr_shards.proofs.SpotLaws.{left_out-behind, names_stand}
+use Rattle.mr_shards.proofs.LeftOutLemmas.{flags-whole}
+use Rattle.mr_shards.proofs.EmissionLemmas.{all_pairs, emitted-all}
+use Rattle.mr_shards.proofs.SpotLemmas.{map-length}
 use Rattle.mr_shards.specs.Joined.{AreOutputsAt, AreTrueOf, IsCounted, JoinedIsTrue, all_files, inputs_of, left_out_from, pairs_of, splits_told}
 
 -- ---- notes and their files
@@ -65,13 +71,22 @@ moved-none (x ∷ xs) =
 
 -- ---- verdicts as shards
 
-abbrev shards_for : List Told → List (List (List ℕ)) → List Shard
+abbrev shards_for : List Told → List (List (List ℕ)) → List Portion
 shards_for [] fss = []
 shards_for (v ∷ vs) [] = []
-shards_for (v ∷ vs) (fs ∷ fss) = record { files = fs; skips = v.left_out } ∷ shards_for vs fss
+shards_for (v ∷ vs) (fs ∷ fss) = record { cut = false; files = fs; skips = v.left_out } ∷ shards_for vs fss
+
+never-cut : (vs : List Told) (fss : List (List (List ℕ))) → AreCutAtLines (shards_for vs fss)
+never-cut [] fss = tt
+never-cut (v ∷ vs) [] = tt
+never-cut (v ∷ vs) (fs ∷ fss) = ((λ e. absurd (cc e)), never-cut vs fss)
+
+left_out-none : (size : ℕ) → [] ≡ left_out_of size []
+unfolding named_files
+left_out-none size = refl
 
 module _ (request : RequestSpec) (some : 0 < request.split) where
-  files-are : (vs : List Told) (fss pss : List (List (List ℕ))) → AreTrueOf request vs fss pss → files_of (shards_for vs fss) ≡ all_files fss
+  files-are : (vs : List Told) (fss pss : List (List (List ℕ))) → AreTrueOf request vs fss pss → whole_of (shards_for vs fss) ≡ all_files fss
   files-are [] [] [] t = refl
   files-are [] [] (p ∷ pss) t = absurd t
   files-are [] (f ∷ fss) pss t = absurd t
@@ -80,8 +95,8 @@ module _ (request : RequestSpec) (some : 0 < request.split) where
   files-are (v ∷ vs) (f ∷ fss) (p ∷ pss) t = ap (λ (l : List (List ℕ)). f ++ l) (files-are vs fss pss t.1)
 
   left_out-is : (before : ℕ) (vs : List Told) (fss pss : List (List (List ℕ))) → AreTrueOf request vs fss pss
-      → left_out_from request.split before vs ≡ map (moved_name before) (skips_of request.split (shards_for vs fss))
-  left_out-is before [] [] [] t = refl
+      → left_out_from request.split before vs ≡ map (moved_name before) (left_out_of request.split (shards_for vs fss))
+  left_out-is before [] [] [] t = ap (map (moved_name before)) (left_out-none request.split)
   left_out-is before [] [] (p ∷ pss) t = absurd t
   left_out-is before [] (f ∷ fss) pss t = absurd t
   left_out-is before (v ∷ vs) [] pss t = absurd t
@@ -89,31 +104,25 @@ module _ (request : RequestSpec) (some : 0 < request.split) where
   left_out-is before (v ∷ vs) (f ∷ fss) (p ∷ pss) t =
       let m : ℕ = split_total request.split f in
       let here : List RecordName = map (moved_name before) v.left_out in
-      let later : List RecordName = skips_of request.split (shards_for vs fss) in
+      let later : List RecordName = left_out_of request.split (shards_for vs fss) in
       let told : before + splits_told request.split v.inputs ≡ before + m = ap (λ k. before + k) (splits-same request.split v.inputs f t.0.inputs_are) in
       ap (λ k. here ++ left_out_from request.split k vs) told
       ∙ ap (λ (l : List RecordName). here ++ l) (left_out-is (before + m) vs fss pss t.1 ∙ sym (moved-twice before m later))
       ∙ sym (map-append (moved_name before) v.left_out (map (moved_name m) later))
+      ∙ ap (map (moved_name before)) (sym (left_out-behind request.split (record { cut = false; files = f; skips = v.left_out }) (shards_for vs fss) some refl (never-cut vs fss) t.0.rise t.0.exist))
 
   pairs-are : (vs : List Told) (fss pss : List (List (List ℕ))) → AreTrueOf request vs fss pss
-      → pairs_of vs ≡ length (emitted request.job request.split (files_of (shards_for vs fss)) (skips_of request.split (shards_for vs fss)))
-  pairs-are [] [] [] t = sym (ap length (emitted-none request))
+      → pairs_of vs ≡ length (all_pairs request.job request.split (shards_for vs fss))
+  pairs-are [] [] [] t = refl
   pairs-are [] [] (p ∷ pss) t = absurd t
   pairs-are [] (f ∷ fss) pss t = absurd t
   pairs-are (v ∷ vs) [] pss t = absurd t
   pairs-are (v ∷ vs) (f ∷ fss) [] t = absurd t
   pairs-are (v ∷ vs) (f ∷ fss) (p ∷ pss) t =
-      let n : ℕ = length f in
-      let m : ℕ = split_total request.split f in
-      let files : List (List ℕ) = files_of (shards_for vs fss) in
-      let skips : List RecordName = skips_of request.split (shards_for vs fss) in
-      let first : List Triple = emitted request.job request.split f v.left_out in
-      let rest : List Triple = emitted request.job request.split files skips in
-      let whole = ap length (emitted-append request f files v.left_out skips some t.0.exist) in
-      let both : length (first ++ map (moved_triple n m) rest) ≡ length first + length (map (moved_triple n m) rest) = length-append first (map (moved_triple n m) rest) in
-      ap (λ k. k + pairs_of vs) t.0.all
-      ∙ ap (λ k. length first + k) (pairs-are vs fss pss t.1 ∙ sym (length-map rest (moved_triple n m)))
-      ∙ sym both ∙ sym whole
+      let ts : List Triple = emitted request.job request.split f v.left_out in
+      let h : Shift = shift_of (record { cut = false; files = f; skips = v.left_out }) in
+      let later : List Emission = all_pairs request.job request.split (shards_for vs fss) in
+      omega (arith, t.0.all, pairs-are vs fss pss t.1, length-append (pairs_in ts) (map (shifted_pair h) later), map-length {Y = Emission} (λ (u : Triple). (u.key, u.value)) ts, map-length (shifted_pair h) later)
 
   judged : (vs : List Told) (fss pss : List (List (List ℕ))) → AreTrueOf request vs fss pss → AllByRecursion IsCounted vs → AllByRecursion (IsJudged request) (shards_for vs fss)
   judged [] fss pss t all = tt
@@ -129,13 +138,6 @@ module _ (request : RequestSpec) (some : 0 < request.split) where
     judged vs fss pss t.1 all.1,
   )
 
-  stand : (vs : List Told) (fss pss : List (List (List ℕ))) → AreTrueOf request vs fss pss
-      → AllByRecursion (λ s. Rises record_order s.skips × SkipsExist request.split s.files s.skips) (shards_for vs fss)
-  stand [] fss pss t = tt
-  stand (v ∷ vs) [] pss t = absurd t
-  stand (v ∷ vs) (f ∷ fss) [] t = absurd t
-  stand (v ∷ vs) (f ∷ fss) (p ∷ pss) t = ((t.0.rise, t.0.exist), stand vs fss pss t.1)
-
   outputs-are : (p : ℕ) (vs : List Told) (fss pss : List (List (List ℕ))) (os : List ShardText) → p < request.parts → AreTrueOf request vs fss pss
       → AreOutputsAt p vs pss os → AreOutputsOf request p (shards_for vs fss) os
   outputs-are p [] [] [] [] less t h = tt
@@ -146,7 +148,7 @@ module _ (request : RequestSpec) (some : 0 < request.split) where
   outputs-are p (v ∷ vs) (f ∷ fss) [] os less t h = absurd t
   outputs-are p (v ∷ vs) (f ∷ fss) (q ∷ pss) [] less t h = absurd h
   outputs-are p (v ∷ vs) (f ∷ fss) (q ∷ pss) (o ∷ os) less t h =
-      (h.0 ∙ count-same v.inputs f t.0.inputs_are, h.1 ∙ t.0.sequential_is p less, outputs-are p vs fss pss os less t.1 h.2)
+      (refl, h.0 ∙ count-same v.inputs f t.0.inputs_are, h.1 ∙ t.0.sequential_is p less, outputs-are p vs fss pss os less t.1 h.2)
 
   inputs-are : (vs : List Told) (fss pss : List (List (List ℕ))) → AreTrueOf request vs fss pss → AreNotesOf (inputs_of vs) (all_files fss)
   inputs-are [] [] [] t = tt
@@ -158,22 +160,25 @@ module _ (request : RequestSpec) (some : 0 < request.split) where
 
 pub joined_is_true : JoinedIsTrue
 joined_is_true request vs m files parts outputs some joined notes count merged true =
-    let shards : List Shard = shards_for vs files in
-    let skips : List RecordName = skips_of request.split shards in
-    let all : files_of shards ≡ all_files files = files-are request some vs files parts true in
+    let size : ℕ = request.split in
+    let shards : List Portion = shards_for vs files in
+    let skips : List RecordName = left_out_of size shards in
+    let cut : AreCutAtLines shards = never-cut vs files in
+    let all : whole_of shards ≡ all_files files = files-are request some vs files parts true in
     let left_out : m.left_out ≡ skips = joined.left_out_is ∙ left_out-is request some 0 vs files parts true ∙ moved-none skips in
-    let stands = skips_stand request.split shards some (stand request some vs files parts true) in
+    let stands = names_stand size shards some in
+    let ts : List Triple = emitted request.job size (whole_of shards) skips in
+    let same : pairs_in ts ≡ all_pairs request.job size shards = emitted-all request.job size shards skips cut (flags-whole size shards some cut) in
     record {
       asks = joined.asks;
       inputs_are = subst (λ (ns : List Note). AreNotesOf ns (all_files files)) (sym joined.inputs_are) (inputs-are request some vs files parts true);
       outputs_are = notes;
       rise = subst (Rises record_order) (sym left_out) stands.0;
-      exist = subst (λ (fs : List (List ℕ)). SkipsExist request.split fs m.left_out) all (subst (λ (ss : List RecordName). SkipsExist request.split (files_of shards) ss) (sym left_out) stands.1);
+      exist = subst (λ (fs : List (List ℕ)). SkipsExist size fs m.left_out) all (subst (λ (ss : List RecordName). SkipsExist size (whole_of shards) ss) (sym left_out) stands.1);
       count = count;
       sequential_is = λ p less. (let w = merged p less in
           w.3 request shards p refl some (judged request some vs files parts true joined.counted) (outputs-are request some p vs files parts w.0 less true w.1)
-          ∙ ap (λ (fs : List (List ℕ)). sequential request fs skips p) all ∙ ap (λ (ss : List RecordName). sequential request (all_files files) ss p) (sym left_out));
-      all = joined.pairs_are ∙ pairs-are request some vs files parts true
-          ∙ ap (λ (fs : List (List ℕ)). length (emitted request.job request.split fs skips)) all
-          ∙ ap (λ (ss : List RecordName). length (emitted request.job request.split (all_files files) ss)) (sym left_out);
+          ∙ (λ i. sequential request (all i) (sym left_out i) p));
+      all = joined.pairs_are ∙ pairs-are request some vs files parts true ∙ ap length (sym same) ∙ map-length {Y = Emission} (λ (u : Triple). (u.key, u.value)) ts
+          ∙ (λ i. length (emitted request.job size (all i) (sym left_out i)));
     }

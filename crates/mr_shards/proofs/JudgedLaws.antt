@@ -12,7 +12,7 @@ small-files (f ∷ fs) h =
     let e = sum_by-cons (length {A = ℕ}) f fs in (omega (arith, e, h), small-files fs (omega (arith, e, h)))
 
 pub good_is_judged : GoodIsJudged
-good_is_judged request files outputs c few small good = record {
+good_is_judged request files outputs c few small good cut = record {
   skips_exist = good.skips_exist;
   few_pairs = omega (arith, few_pairs request.job c.skips request.split files few small, emitted-count request files c.skips);
   few_files = omega (arith, few);

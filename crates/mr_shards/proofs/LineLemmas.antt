@@ -16,7 +16,7 @@ use Rattle.std.specs.Int.{IsInRange}
 use Rattle.std.proofs.Common.{◌≢◌}
 use Rattle.mr_jobs.specs.Url.{before_byte}
 use Rattle.mr_shards.specs.Lines.{after_first, after_last, groups_in}
-use Rattle.mr_shards.specs.Merged.{group_text, moved_value}
+use Rattle.mr_shards.specs.Merged.{group_text}
 use Rattle.std.proofs.Common.{not}
 use Rattle.mr_sequential.proofs.KeyLaws.{bytes_eq-is}
 use Rattle.std.specs.Str.{bytes_eq}
@@ -24,6 +24,7 @@ use Rattle.mr_shards.specs.Views.{BeginsWithLine, IsParsed, IsFor, IsSameKind, v
 use Rattle.mr_shards.specs.declared.line.Tally.{Tally}
 use Rattle.mr_shards.specs.declared.line.Tally.TheVariants.{Total, Place}
 use Rattle.mr_shards.proofs.ReadingLemmas.{total-read, place-read, total-first, place-first, value-of, decimal-lacks, Lacks-append, before-first, after-first, after-last}
+use Rattle.mr_shards.specs.Portions.{past_files, shifted_value}
 use Rattle.mr_bytes.specs.Cut.{Lacks}
 
 pub lacks_front : (mark at : ℕ) (text : List ℕ) → at ≤ length text → Nowhere (Passes (is_byte mark) text) 0 at → Lacks mark (take at text)
@@ -41,7 +42,7 @@ parted mark (suc at) (b ∷ text) h e = ap (λ l. b ∷ l) (parted mark at text 
 pub behind : (at : ℕ) (text : List ℕ) → take (length text - (at + 1)) (drop (at + 1) text) ≡ drop (at + 1) text
 behind at text = take_all (length text - (at + 1)) (drop (at + 1) text) (omega (arith, length-drop (at + 1) text))
 
-pub replicate-moved : (files n : ℕ) → replicate n One ≡ map (moved_value files) (replicate n One)
+pub replicate-moved : (files n : ℕ) → replicate n One ≡ map (shifted_value (past_files files)) (replicate n One)
 replicate-moved files zero = refl
 replicate-moved files (suc n) = ap (λ l. One ∷ l) (replicate-moved files n)
 
@@ -158,8 +159,8 @@ put-nothing job key out new t n e is put =
     put ∙ sym (ap (λ u. out ++ group_text job (record { key = key; values = values_of u })) e ∙ ap (λ l. out ++ l) (nothing_told job key n is))
 
 -- a total is where it is, however many files come before
-pub total-moved : (files n : ℕ) (t : Tally) → t ≡ Total n → replicate n One ≡ map (moved_value files) (values_of t)
-total-moved files n t e = replicate-moved files n ∙ ap (λ u. map (moved_value files) (values_of u)) (sym e)
+pub total-moved : (files n : ℕ) (t : Tally) → t ≡ Total n → replicate n One ≡ map (shifted_value (past_files files)) (values_of t)
+total-moved files n t e = replicate-moved files n ∙ ap (λ u. map (shifted_value (past_files files)) (values_of u)) (sym e)
 
 pub lacks_all : (mark : ℕ) (text : List ℕ) → Nowhere (Passes (is_byte mark) text) 0 (length text) → Lacks mark text
 lacks_all mark text none = subst (Lacks mark) (take_all (length text) text (omega arith)) (lacks_front mark (length text) text (omega arith) none)

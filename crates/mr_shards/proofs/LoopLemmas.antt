@@ -18,16 +18,18 @@ use Rattle.mr_shards.specs.declared.line.Line.{Line}
 use Rattle.mr_shards.specs.declared.line.Tally.{Tally}
 use Rattle.mr_shards.specs.declared.line.Tally.TheVariants.{Total, Place}
 use Rattle.mr_shards.specs.declared.merger.ShardText.{ShardText}
-use Rattle.mr_shards.specs.Merged.{Group, group_text, texts, joined, with_group, merged, merged_parts, moved_group}
+use Rattle.mr_shards.specs.Merged.{Group, group_text, texts, joined, with_group, merged}
 use Rattle.mr_shards.specs.Lines.{groups_in, group_in, NoneFalls}
 use Rattle.mr_shards.specs.Refused.{AreRead, IsRest}
 use Rattle.mr_shards.specs.Views.{group_of, IsFor, IsPlace, IsSameKind}
 use Rattle.mr_shards.specs.Cursors.{headed, left, IsLineFor, IsHead, IsHeadFor, Goes, with_waiting}
-use Rattle.mr_shards.specs.Outputs.{parts_in, moved_parts, Stands, AreOpened}
+use Rattle.mr_shards.specs.Outputs.{parts_in, Stands, AreOpened}
 use Rattle.mr_shards.proofs.MergedLaws.{keys, with_group-keys}
-use Rattle.mr_shards.proofs.MergeLemmas.{merged_all, merged_all-rise, with_group-joined, in_front, parts-at_once}
+use Rattle.mr_shards.proofs.MergeLemmas.{merged_groups-rise, with_group-joined, in_front}
 use Rattle.mr_shards.proofs.ReadingLemmas.{lines-none}
 use Rattle.mr_shards.proofs.TotalLemmas.{IsWithin, within-first, within-step}
+use Rattle.mr_shards.specs.Portions.{Shift, merged_groups, merged_portions, no_shift, past_files, shifted_group, shifted_parts}
+use Rattle.mr_shards.proofs.ShiftLemmas.{files-behind, merged_at_once}
 use Rattle.mr_shards.proofs.StepLemmas.{IsLeast, NotLess, NoneBefore, less-not, not_less-differs, turned, IsBest, Step, step-kinds, step-for, step-stands, step-pull, step-behind, step-at, merged-none_before}
 
 -- ---- the line that waits
@@ -142,7 +144,7 @@ module _ (job : JobSpec) (line l : Line) (gs : List Group) (old new : List ℕ) 
 
 pub record Told (job : JobSpec) (outputs : List ShardText) (cursors : List Cursor) (waiting : Option Line) (out : List ℕ) : Type 0 where
   pub stands : AllByRecursion (λ (o : ShardText). IsRest job None o.text.now) outputs
-  pub text : out ++ texts job (with_waiting waiting (merged_all (map (left job) cursors))) ≡ texts job (merged_parts (parts_in job outputs))
+  pub text : out ++ texts job (with_waiting waiting (merged_groups (map (left job) cursors))) ≡ texts job (merged_portions (parts_in job outputs))
   pub below : IsBelow job waiting cursors
 
 pub record Kept (job : JobSpec) (outputs : List ShardText) (cursors : List Cursor) (waiting : Option Line) (out : List ℕ) : Type 0 where
@@ -164,15 +166,15 @@ kept-step job outputs old new waiting line l out out' s read g k =
       kinds = step-kinds job old new line s k.kinds;
       read = read;
       few = within-step job outputs old new waiting line l out out' s g k.few;
-      waits = goes-for job line l (merged_all M) out out' waiting g k.waits lf;
+      waits = goes-for job line l (merged_groups M) out out' waiting g k.waits lf;
       told = λ st.
           (let t = k.told (step-stands job old new line s st) in
           let behind = step-behind job old new line s st in record {
             stands = t.stands;
-            text = goes-text job line l (merged_all M) out out' waiting g k.waits lf (merged_all-rise M) (merged-none_before line.key.now M behind)
+            text = goes-text job line l (merged_groups M) out out' waiting g k.waits lf (merged_groups-rise M) (merged-none_before line.key.now M behind)
                 (λ w e. step-at job old new line s w.key.now (below-some job waiting old w e t.below))
                 ∙ ap (λ (gs : List Group). out ++ texts job (with_waiting waiting gs)) (sym (step-pull job old new line s st)) ∙ t.text;
-            below = subst (λ (q : List ℕ). AllByRecursion (NoneBefore q) M) (sym (goes-key job line l (merged_all M) out out' waiting g)) behind;
+            below = subst (λ (q : List ℕ). AllByRecursion (NoneBefore q) M) (sym (goes-key job line l (merged_groups M) out out' waiting g)) behind;
           });
     }
 
@@ -185,7 +187,7 @@ opened-all job (c ∷ cs) [] o s = absurd o
 opened-all job (c ∷ cs) (x ∷ os) o s = (o.0 s.0, opened-all job cs os o.1 s.1)
 
 pub kept-first : (job : JobSpec) (outputs : List ShardText) (cs : List Cursor) (out : List ℕ) → AllByRecursion (IsHeadFor job) cs → AreRead job cs outputs → AreOpened job cs outputs
-    → map (left job) cs ≡ moved_parts 0 (parts_in job outputs) → out ≡ [] → Kept job outputs cs None out
+    → map (left job) cs ≡ shifted_parts no_shift (parts_in job outputs) → out ≡ [] → Kept job outputs cs None out
 kept-first job outputs cs out kinds read opened lefts none = record {
   kinds = kinds;
   waits = tt;
@@ -193,8 +195,8 @@ kept-first job outputs cs out kinds read opened lefts none = record {
   few = within-first job outputs cs lefts;
   told = λ st. record {
     stands = opened-all job cs outputs opened st;
-    text = ap (λ (o : List ℕ). o ++ texts job (merged_all (map (left job) cs))) none
-        ∙ ap (λ (gss : List (List Group)). texts job (merged_all gss)) lefts ∙ ap (texts job) (sym (parts-at_once (parts_in job outputs)));
+    text = ap (λ (o : List ℕ). o ++ texts job (merged_groups (map (left job) cs))) none
+        ∙ ap (λ (gss : List (List Group)). texts job (merged_groups gss)) lefts ∙ ap (texts job) (sym (merged_at_once (parts_in job outputs)));
     below = tt;
   };
 }
@@ -212,19 +214,19 @@ all-stand job (c ∷ cs) ends kinds =
     let empty : c.rest.now ≡ [] = stands-end job c.head c.rest.now ends.0 kinds.0 in (
       record {
         rest = record { groups = []; text_is = empty; lines = tt; in_turn = tt };
-        in_order = subst (λ (o : Option Line). NoneFalls (headed o (map (moved_group c.before) (groups_in job c.rest.now)))) (sym ends.0) tt;
+        in_order = subst (λ (o : Option Line). NoneFalls (headed o (map (shifted_group (past_files c.before)) (groups_in job c.rest.now)))) (sym ends.0) tt;
       },
       all-stand job cs ends.1 kinds.1,
     )
 
-none-left : (job : JobSpec) (cs : List Cursor) → AllByRecursion (λ c. c.head ≡ None) cs → merged_all (map (left job) cs) ≡ []
+none-left : (job : JobSpec) (cs : List Cursor) → AllByRecursion (λ c. c.head ≡ None) cs → merged_groups (map (left job) cs) ≡ []
 none-left job [] ends = refl
 none-left job (c ∷ cs) ends =
-    ap (λ (o : Option Line). merged (headed o (map (moved_group c.before) (groups_in job c.rest.now))) (merged_all (map (left job) cs))) ends.0 ∙ none-left job cs ends.1
+    ap (λ (o : Option Line). merged (headed o (map (shifted_group (past_files c.before)) (groups_in job c.rest.now))) (merged_groups (map (left job) cs))) ends.0 ∙ none-left job cs ends.1
 
 pub record Ends (job : JobSpec) (outputs : List ShardText) (waiting : Option Line) (out : List ℕ) : Type 0 where
   pub stands : AllByRecursion (λ (o : ShardText). IsRest job None o.text.now) outputs
-  pub text : out ++ texts job (with_waiting waiting []) ≡ texts job (merged_parts (parts_in job outputs))
+  pub text : out ++ texts job (with_waiting waiting []) ≡ texts job (merged_portions (parts_in job outputs))
 
 pub kept-end : (job : JobSpec) (outputs : List ShardText) (cs : List Cursor) (waiting : Option Line) (out : List ℕ) → IsBest cs None → Kept job outputs cs waiting out → Ends job outputs waiting out
 kept-end job outputs cs waiting out ends k =
@@ -244,15 +246,16 @@ pub opened-more : (job : JobSpec) (cs : List Cursor) (os : List ShardText) (i : 
 opened-more job cs os i d c h a f = subst (AreOpened job (cs ++ c ∷ [])) (sym (take_more os i d h)) (opened-push job cs (take i os) c (get_or os i d) a f)
 
 pub lefts-more : (job : JobSpec) (cs : List Cursor) (os : List ShardText) (i before next : ℕ) (d : ShardText) (c : Cursor) (all : List (List Group)) → i < length os
-    → map (left job) cs ++ moved_parts before (parts_in job (drop i os)) ≡ all → left job c ≡ map (moved_group before) (groups_in job (get_or os i d).text.now)
+    → map (left job) cs ++ shifted_parts (past_files before) (parts_in job (drop i os)) ≡ all → left job c ≡ map (shifted_group (past_files before)) (groups_in job (get_or os i d).text.now)
     → next ≡ before + (get_or os i d).files
-    → map (left job) (cs ++ c ∷ []) ++ moved_parts next (parts_in job (drop (i + 1) os)) ≡ all
+    → map (left job) (cs ++ c ∷ []) ++ shifted_parts (past_files next) (parts_in job (drop (i + 1) os)) ≡ all
 lefts-more job cs os i before next d c all h e here n =
-    ap (λ (l : List (List Group)). l ++ moved_parts next (parts_in job (drop (i + 1) os))) (map-append (left job) cs (c ∷ []))
-    ∙ append_assoc (map (left job) cs) (left job c ∷ []) (moved_parts next (parts_in job (drop (i + 1) os)))
-    ∙ ap (λ (gs : List Group). map (left job) cs ++ gs ∷ moved_parts next (parts_in job (drop (i + 1) os))) here
-    ∙ ap (λ (k : ℕ). map (left job) cs ++ map (moved_group before) (groups_in job (get_or os i d).text.now) ∷ moved_parts k (parts_in job (drop (i + 1) os))) n
-    ∙ ap (λ (l : List ShardText). map (left job) cs ++ moved_parts before (parts_in job l)) (sym (drop_more os i d h)) ∙ e
+    ap (λ (l : List (List Group)). l ++ shifted_parts (past_files next) (parts_in job (drop (i + 1) os))) (map-append (left job) cs (c ∷ []))
+    ∙ append_assoc (map (left job) cs) (left job c ∷ []) (shifted_parts (past_files next) (parts_in job (drop (i + 1) os)))
+    ∙ ap (λ (gs : List Group). map (left job) cs ++ gs ∷ shifted_parts (past_files next) (parts_in job (drop (i + 1) os))) here
+    ∙ ap (λ (s : Shift). map (left job) cs ++ map (shifted_group (past_files before)) (groups_in job (get_or os i d).text.now) ∷ shifted_parts s (parts_in job (drop (i + 1) os)))
+    (ap past_files n ∙ sym (files-behind before (get_or os i d).files))
+    ∙ ap (λ (l : List ShardText). map (left job) cs ++ shifted_parts (past_files before) (parts_in job l)) (sym (drop_more os i d h)) ∙ e
 
 pub least-within : (cs : List Cursor) (at : ℕ) (line : Line) → IsLeast cs at line → at < length cs
 least-within cs at line b = omega (arith, ap length b.is, length-append b.front (b.one ∷ b.back), b.place)

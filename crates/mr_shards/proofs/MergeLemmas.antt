@@ -1,31 +1,24 @@
 -- Taking the least group out of lists that are merged.
-use Rattle.std.proofs.Common.{◌≡◌, ℕ, ◌+◌, ◌++◌, List, [], ◌∷◌, refl, ap, sym, ◌∙◌, subst, inl, inr, Bool, true, false, cond, map, arith}
-use Rattle.std.proofs.lemmas.List.{append_assoc, map-append}
+use Rattle.std.proofs.Common.{◌≡◌, ℕ, ◌++◌, List, [], ◌∷◌, refl, ap, sym, ◌∙◌, subst, inl, inr, Bool, true, false, cond, map}
+use Rattle.std.proofs.lemmas.List.{append_assoc}
 use Rattle.std.proofs.lemmas.Cmp.{nat_list_cmp_total}
 use Rattle.std.specs.List.{AllByRecursion}
 use Rattle.std.specs.Ordering.{match_ordering}
 use Rattle.std.specs.Str.{bytes_eq}
-use Rattle.std.specs.declared.cmp.Ordering.{Ordering}
-use Rattle.std.specs.declared.cmp.Ordering.TheVariants.{Less, Equal, Greater}
+use Rattle.std.specs.declared.cmp.Ordering.TheVariants.{Less}
 use Rattle.mr_bytes.specs.declared.Value.{Value}
-use Rattle.mr_bytes.specs.declared.Value.TheVariants.{One, At}
 use Rattle.mr_bytes.specs.Lists.{Has, Rises}
 use Rattle.mr_bytes.specs.Order.{key_order}
 use Rattle.mr_sequential.specs.Sequential.{with_key}
 use Rattle.mr_sequential.proofs.KeyLaws.{bytes_eq-is, with_key-cases, with_key-new, with_key-old, with_key-rises}
 use Rattle.mr_bytes.proofs.ListLaws.{same_rising}
-use Rattle.mr_shards.specs.Merged.{Group, joined, with_group, merged, Part, merged_parts, moved_value, moved_group}
-use Rattle.mr_shards.specs.Outputs.{moved_parts}
+use Rattle.mr_shards.specs.Merged.{Group, joined, with_group, merged}
+use Rattle.mr_shards.specs.Portions.{merged_groups}
 use Rattle.mr_shards.proofs.MergedLaws.{keys, values_if, values_at, told, told-all, told-same, with_group-values, with_group-keys, merged-rise}
 
--- the groups of lists, merged from the last
-abbrev pub merged_all : List (List Group) → List Group
-merged_all [] = []
-merged_all (gs ∷ gss) = merged gs (merged_all gss)
-
-pub merged_all-rise : (gss : List (List Group)) → Rises key_order (keys (merged_all gss))
-merged_all-rise [] = tt
-merged_all-rise (gs ∷ gss) = merged-rise gs (merged_all gss) (merged_all-rise gss)
+pub merged_groups-rise : (gss : List (List Group)) → Rises key_order (keys (merged_groups gss))
+merged_groups-rise [] = tt
+merged_groups-rise (gs ∷ gss) = merged-rise gs (merged_groups gss) (merged_groups-rise gss)
 
 pub with_group-rise : (g : Group) (gs : List Group) → Rises key_order (keys gs) → Rises key_order (keys (with_group g gs))
 with_group-rise g gs r = subst (Rises key_order) (sym (with_group-keys g gs)) (with_key-rises g.key (keys gs) r)
@@ -102,59 +95,3 @@ through (h ∷ hs) g gs ne r = ap (with_group h) (through hs g gs ne.1 r) ∙ wi
 pub in_front : (g : Group) (gs : List Group) → AllByRecursion (λ k. key_order g.key k ≡ Less) (keys gs) → with_group g gs ≡ g ∷ gs
 in_front g [] all = refl
 in_front g (h ∷ hs) all = ap (λ o. match_ordering o (g ∷ h ∷ hs) (joined g h ∷ hs) (h ∷ with_group g hs)) all.0
-
--- ---- parts, with their files moved
-
-map-moved : (n : ℕ) (g : Group) (gs : List Group) → map (moved_group n) (with_group g gs) ≡ with_group (moved_group n g) (map (moved_group n) gs)
-map-moved n g [] = refl
-map-moved n g (h ∷ hs) = by (key_order g.key h.key) (map-moved n g hs)
-  where
-    by : (o : Ordering) → map (moved_group n) (with_group g hs) ≡ with_group (moved_group n g) (map (moved_group n) hs)
-        → map (moved_group n) (match_ordering o (g ∷ h ∷ hs) (joined g h ∷ hs) (h ∷ with_group g hs))
-        ≡ match_ordering o (moved_group n g ∷ moved_group n h ∷ map (moved_group n) hs) (joined (moved_group n g) (moved_group n h) ∷ map (moved_group n) hs) (moved_group n h ∷ with_group (moved_group n g) (map (moved_group n) hs))
-    by Less rest = refl
-    by Equal rest =
-        let both : map (moved_value n) (g.values ++ h.values) ≡ map (moved_value n) g.values ++ map (moved_value n) h.values = map-append (moved_value n) g.values h.values in
-        λ i. record { key = g.key; values = both i } ∷ map (moved_group n) hs
-    by Greater rest = ap (λ l. moved_group n h ∷ l) rest
-
-map-merged : (n : ℕ) (gs hs : List Group) → map (moved_group n) (merged gs hs) ≡ merged (map (moved_group n) gs) (map (moved_group n) hs)
-map-merged n [] hs = refl
-map-merged n (g ∷ gs) hs = map-moved n g (merged gs hs) ∙ ap (with_group (moved_group n g)) (map-merged n gs hs)
-
-value-twice : (m n : ℕ) (v : Value) → moved_value m (moved_value n v) ≡ moved_value (m + n) v
-value-twice m n One = refl
-value-twice m n (At file offset) = let e : m + (n + file) ≡ m + n + file = omega arith in ap (λ f. At f offset) e
-
-values-twice : (m n : ℕ) (vs : List Value) → map (moved_value m) (map (moved_value n) vs) ≡ map (moved_value (m + n)) vs
-values-twice m n [] = refl
-values-twice m n (v ∷ vs) = let here = value-twice m n v in let rest = values-twice m n vs in λ i. here i ∷ rest i
-
-groups-twice : (m n : ℕ) (gs : List Group) → map (moved_group m) (map (moved_group n) gs) ≡ map (moved_group (m + n)) gs
-groups-twice m n [] = refl
-groups-twice m n (g ∷ gs) = let here = values-twice m n g.values in let rest = groups-twice m n gs in λ i. record { key = g.key; values = here i } ∷ rest i
-
-pub parts-moved : (n : ℕ) (parts : List Part) → map (moved_group n) (merged_parts parts) ≡ merged_all (moved_parts n parts)
-parts-moved n [] = refl
-parts-moved n (a ∷ parts) =
-    map-merged n a.groups (map (moved_group a.files) (merged_parts parts))
-    ∙ ap (merged (map (moved_group n) a.groups)) (groups-twice n a.files (merged_parts parts) ∙ parts-moved (n + a.files) parts)
-
-value-still : (v : Value) → moved_value 0 v ≡ v
-value-still One = refl
-value-still (At file offset) = let e : 0 + file ≡ file = omega arith in ap (λ f. At f offset) e
-
-values-still : (vs : List Value) → map (moved_value 0) vs ≡ vs
-values-still [] = refl
-values-still (v ∷ vs) = let here = value-still v in let rest = values-still vs in λ i. here i ∷ rest i
-
-groups-still : (gs : List Group) → map (moved_group 0) gs ≡ gs
-groups-still [] = refl
-groups-still (g ∷ gs) = let here = values-still g.values in let rest = groups-still gs in λ i. record { key = g.key; values = here i } ∷ rest i
-
--- the merge of parts, each moved at once by all files before
-pub parts-at_once : (parts : List Part) → merged_parts parts ≡ merged_all (moved_parts 0 parts)
-parts-at_once parts = sym (groups-still (merged_parts parts)) ∙ parts-moved 0 parts
-
-pub groups-rise-merged : (gs hs : List Group) → Rises key_order (keys hs) → Rises key_order (keys (merged gs hs))
-groups-rise-merged gs hs r = merged-rise gs hs r

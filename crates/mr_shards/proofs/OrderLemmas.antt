@@ -6,7 +6,8 @@ use Rattle.std.specs.Prelude.{Option}
 use Rattle.mr_shards.specs.declared.merger.MergeFault.{MergeFault}
 use Rattle.mr_shards.specs.declared.window.Held.{Held}
 use Rattle.mr_shards.specs.declared.window.Window.{Window}
-use Rattle.mr_shards.specs.Pieces.{AreBlamed, AreLines, AreTaken, AreWindows, AreWithin, Bound, EndsLine, Reading, outputs_of, pieces_of}
+use Rattle.mr_shards.specs.Lines.{EndsLine}
+use Rattle.mr_shards.specs.Pieces.{AreBlamed, AreLines, AreTaken, AreWindows, AreWithin, Bound, Reading, outputs_of, pieces_of}
 use Rattle.mr_shards.specs.Refused.{Blames}
 use Rattle.mr_shards.proofs.BlameLemmas.{AreClosing, blames-so}
 

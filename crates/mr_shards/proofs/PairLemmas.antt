@@ -26,8 +26,8 @@ use Rattle.mr_splits.specs.Laws.{record_of}
 use Rattle.mr_bytes.specs.Pairs.{Triple}
 use Rattle.mr_sequential.specs.Emitted.{placed_from, record_triples, emitted}
 use Rattle.mr_bytes.proofs.ListLaws.{Has-all, Has-flat_map_from, Has-map}
-use Rattle.mr_shards.specs.Shards.{Shard}
 use Rattle.mr_shards.specs.Outputs.{IsJudged}
+use Rattle.mr_shards.specs.Portions.{Portion}
 use Rattle.mr_shards.proofs.LineLemmas.{Lacks-front}
 
 Lacks-behind : (b : ℕ) (xs ys : List ℕ) → Lacks b (xs ++ ys) → Lacks b ys
@@ -175,7 +175,7 @@ record-pairs job skips r t fine h = by (is_left_out skips r.name) h
         let p : IsPairOf job r.file r.start w.0.0 w.0.1 = emission-pairs job r.file r.start r.bytes w.0 fine.clear w.1 in
         record { clear = subst (Lacks 10) w.2 p.clear; value_is = subst (IsCounted job) w.3 (counted job r.file r.start w.0.1 fine.file fine.start p.value_is) }
 
-pub pairs-fine : (request : RequestSpec) (s : Shard) (t : Triple) → 0 < request.split → IsJudged request s → Has (emitted request.job request.split s.files s.skips) t → IsFinePair request.job t
+pub pairs-fine : (request : RequestSpec) (s : Portion) (t : Triple) → 0 < request.split → IsJudged request s → Has (emitted request.job request.split s.files s.skips) t → IsFinePair request.job t
 pairs-fine request s t some judged h =
     let w = Has-flat_map_from (record_triples request.job s.skips) (named_records request.split s.files) t h in
     let b : Belongs request.split s.files w.0 =

@@ -5,12 +5,13 @@ use Rattle.mr_shards.specs.declared.window.Held.{Held}
 use Rattle.mr_shards.specs.declared.window.Window.{Window}
 use Rattle.std.proofs.Common.{None}
 use Rattle.std.specs.List.{AllByRecursion}
-use Rattle.mr_shards.specs.Merged.{merged_parts, texts}
+use Rattle.mr_shards.specs.Merged.{texts}
 use Rattle.mr_shards.specs.Outputs.{parts_in}
 use Rattle.mr_shards.specs.Refused.{IsRest}
 use Rattle.mr_shards.specs.Pieces.{AreBlamed, ArePut, AreWithin, all_read_on, output_with, pieces_of, read_on, told}
 use Rattle.mr_jobs.specs.JobSpec.{JobSpec}
 use Rattle.mr_shards.specs.declared.merger.MergeFault.TheVariants.{OutOfMemory}
+use Rattle.mr_shards.specs.Portions.{merged_portions}
 use Rattle.mr_shards.specs.declared.merger.ShardText.{ShardText}
 
 pub within-at : (cs : List ℕ) (ws : List Window) (i d : ℕ) (e : Window) → AreWithin cs ws → i < length cs → get_or cs i d ≤ length (get_or ws i e).bytes.now
@@ -62,7 +63,7 @@ pub out-of_memory : (job : JobSpec) (hs : List Held) (ps : List (ℕ × List ℕ
 out-of_memory job hs ps = record { outputs = outputs_as ps; are = told-as ps; fault = OutOfMemory; is = refl; blames = tt }
 
 pub put-all : (job : JobSpec) (ps : List (ℕ × List ℕ)) (out out' : List ℕ) (os seen : List ShardText) (text shown : List ℕ) → map told os ≡ ps → seen ≡ os
-    → AllByRecursion (λ (o : ShardText). IsRest job None o.text.now) seen → text ≡ texts job (merged_parts (parts_in job seen)) → shown ≡ text → out' ≡ out ++ shown → ArePut job ps out out'
+    → AllByRecursion (λ (o : ShardText). IsRest job None o.text.now) seen → text ≡ texts job (merged_portions (parts_in job seen)) → shown ≡ text → out' ≡ out ++ shown → ArePut job ps out out'
 put-all job ps out out' os seen text shown are same stands is show e = record {
   outputs = seen;
   are = ap (map told) same ∙ are;

@@ -7,14 +7,15 @@ use Rattle.mr_jobs.specs.JobSpec.{JobSpec}
 use Rattle.mr_shards.specs.declared.merger.MergeFault.{MergeFault}
 use Rattle.mr_shards.specs.declared.window.Held.{Held}
 use Rattle.mr_shards.specs.declared.window.Window.{Window}
-use Rattle.mr_shards.specs.Merged.{Group, merged, merged_parts, moved_group, texts}
+use Rattle.mr_shards.specs.Merged.{Group, merged, texts}
 use Rattle.mr_shards.specs.Lines.{group_in, groups_in}
 use Rattle.mr_shards.specs.Outputs.{parts_in}
 use Rattle.mr_shards.specs.Pieces.{Adds, AreBlamed, AreFresh, ArePut, AreTaken, AreWithin, BeginsBehind, BlamesAll, Bound, IsAfter, IsBefore, IsTaken, Reading, Standing, all_read_on, are_last, cuts_before, fresh, front, behind, is_past, least_last, moved_to, next_place, nothing, outputs_of, part_taken, pieces_of, place_for, taken_on, text_taken, whole_window}
 use Rattle.mr_shards.proofs.ReadingLemmas.{lines-none}
-use Rattle.mr_shards.proofs.WholeLaws.{output-of_all}
+use Rattle.mr_shards.proofs.LineLaws.{output-of_all}
 use Rattle.mr_shards.proofs.CutLemmas.{AreEnding, bounds, cut-of, ending-for}
 use Rattle.mr_shards.proofs.TurnLemmas.{Suits, after-place, both-true, still-taken, text-on, wholes, within-place, within-whole}
+use Rattle.mr_shards.specs.Portions.{merged_portions, past_files, shifted_group}
 use Rattle.mr_shards.proofs.BlameLemmas.{AreClosing, blames-so}
 
 -- ---- nothing is taken yet
@@ -48,14 +49,14 @@ fresh-after job [] (r ∷ rs) f = absurd f
 fresh-after job (n ∷ files) [] f = absurd f
 fresh-after job (n ∷ files) (r ∷ rs) f = (fresh-taken job n r f.0 f.1, fresh-after job files rs f.2)
 
-fresh-parts : (job : JobSpec) (files : List ℕ) (rs : List Reading) → AreFresh files rs → merged_parts (map (part_taken job) rs) ≡ []
+fresh-parts : (job : JobSpec) (files : List ℕ) (rs : List Reading) → AreFresh files rs → merged_portions (map (part_taken job) rs) ≡ []
 fresh-parts job [] [] f = refl
 fresh-parts job [] (r ∷ rs) f = absurd f
 fresh-parts job (n ∷ files) [] f = absurd f
 fresh-parts job (n ∷ files) (r ∷ rs) f =
     let read : groups_in job (front r) ≡ [] = ap (groups_in job) (none-front r f.1) ∙ no-groups job in
-    let rest : merged_parts (map (part_taken job) rs) ≡ [] = fresh-parts job files rs f.2 in
-    λ i. merged (read i) (map (moved_group r.output.files) (rest i))
+    let rest : merged_portions (map (part_taken job) rs) ≡ [] = fresh-parts job files rs f.2 in
+    λ i. merged (read i) (map (shifted_group (past_files r.output.files)) (rest i))
 
 pub fresh-text : (job : JobSpec) (files : List ℕ) (rs : List Reading) → AreFresh files rs → text_taken job rs ≡ []
 fresh-text job files rs f = ap (texts job) (fresh-parts job files rs f)
@@ -89,7 +90,7 @@ pub adds-whole : (job : JobSpec) (m : Standing) (hs : List Held) (ws : List Wind
 adds-whole job m hs ws cuts out out' same last are p =
     let q : ArePut job (pieces_of m.held ws (map whole_window ws)) out out' =
     subst (λ (xs : List Held). ArePut job (pieces_of xs ws (map whole_window ws)) out out') same p in
-    let added : List ℕ = texts job (merged_parts (parts_in job q.outputs)) in
+    let added : List ℕ = texts job (merged_portions (parts_in job q.outputs)) in
     record {
       added = added;
       out_is = q.out_is;
@@ -97,11 +98,11 @@ adds-whole job m hs ws cuts out out' same last are p =
           (let text : text_taken job (taken_on (map whole_window ws) rs) ≡ text_taken job rs ++ added =
           text-on job m.bound m.held rs ws (map whole_window ws) q.outputs t v (within-whole ws) q.are q.stands in
           let w = wholes job m.bound m.held rs ws q.outputs t v q.are q.stands last in
-          let all : text_taken job rs ++ added ≡ texts job (merged_parts (parts_in job (outputs_of rs))) = sym text ∙ ap (λ ps. texts job (merged_parts ps)) w.parts_are in
+          let all : text_taken job rs ++ added ≡ texts job (merged_portions (parts_in job (outputs_of rs))) = sym text ∙ ap (λ ps. texts job (merged_portions ps)) w.parts_are in
           record {
             text_is = ap (λ (cs : List ℕ). text_taken job (taken_on cs rs)) are ∙ text;
             after = λ more. absurd (opposite (are_last ws) last more);
-            whole = λ _. record { stands = w.stands; text_is = all; whole = output-of_all job (outputs_of rs) (text_taken job rs ++ added) w.stands all };
+            whole = λ _. record { stands = w.stands; text_is = all; whole = output-of_all job (outputs_of rs) (text_taken job rs ++ added) all };
           });
     }
 
@@ -118,7 +119,7 @@ pub adds-to : (job : JobSpec) (m m' : Standing) (ws : List Window) (p : Bound) (
     → ArePut job (pieces_of m.held ws (cuts_before p ws)) out out' → Adds job ws cuts m m' out out'
 adds-to job m m' ws p cuts out out' more is past are moved u =
     let f = found-place job (least_last None 0 ws) p is in
-    let added : List ℕ = texts job (merged_parts (parts_in job u.outputs)) in
+    let added : List ℕ = texts job (merged_portions (parts_in job u.outputs)) in
     let suits : Suits job (Some p) = subst (λ (b : Bound). Suits job (Some b)) (sym f.2) (suits-for job f.0) in
     let ends : AreEnding p ws = subst (λ (b : Bound). AreEnding b ws) (sym f.2) (ending-for job f.0 ws (bounds f.0 ws f.1)) in
     record {

@@ -15,14 +15,15 @@ use Rattle.mr_sequential.proofs.KeyLaws.{key_tie}
 use Rattle.mr_bytes.proofs.ListLaws.{Has-all, all_from_Has, Has-map_from}
 use Rattle.mr_shards.specs.declared.cursor.Cursor.{Cursor}
 use Rattle.mr_shards.specs.declared.line.Line.{Line}
-use Rattle.mr_shards.specs.Merged.{Group, with_group, merged, moved_group}
+use Rattle.mr_shards.specs.Merged.{Group, with_group, merged}
 use Rattle.mr_shards.specs.Lines.{groups_in, NoneFalls}
 use Rattle.mr_shards.specs.Views.{group_of, IsFor}
 use Rattle.mr_shards.specs.Cursors.{AreBehind, AreBeyond, Differs, HasFront, NotBefore, Past, least_from, lesser, headed, left, IsHead, IsHeadFor, DoesNotFall, ReadsOn}
 use Rattle.mr_shards.specs.Refused.{IsRestOf}
 use Rattle.mr_shards.specs.Outputs.{Stands}
 use Rattle.mr_shards.proofs.MergedLaws.{keys, merged-keys, with_keys-cases}
-use Rattle.mr_shards.proofs.MergeLemmas.{merged_all, merged_all-rise, through}
+use Rattle.mr_shards.specs.Portions.{merged_groups, past_files, shifted_group}
+use Rattle.mr_shards.proofs.MergeLemmas.{merged_groups-rise, through}
 
 -- ---- keys that aren't before others
 
@@ -185,20 +186,20 @@ none-equal line (Some l) gs h falls = (
 )
 
 pull_split : (front : List (List Group)) (g : Group) (gs : List Group) (back : List (List Group)) → AllByRecursion (AllByRecursion (λ h. h.key ≡ g.key → ⊥)) front
-    → merged_all (front ++ (g ∷ gs) ∷ back) ≡ with_group g (merged_all (front ++ gs ∷ back))
+    → merged_groups (front ++ (g ∷ gs) ∷ back) ≡ with_group g (merged_groups (front ++ gs ∷ back))
 pull_split [] g gs back apart = refl
 pull_split (hs ∷ front) g gs back apart =
-    ap (merged hs) (pull_split front g gs back apart.1) ∙ through hs g (merged_all (front ++ gs ∷ back)) apart.0 (merged_all-rise (front ++ gs ∷ back))
+    ap (merged hs) (pull_split front g gs back apart.1) ∙ through hs g (merged_groups (front ++ gs ∷ back)) apart.0 (merged_groups-rise (front ++ gs ∷ back))
 
 -- the keys of merged lists aren't before k where those of each list aren't
-pub merged-none_before : (k : List ℕ) (gss : List (List Group)) → AllByRecursion (NoneBefore k) gss → AllByRecursion (λ q. NotLess q k) (keys (merged_all gss))
+pub merged-none_before : (k : List ℕ) (gss : List (List Group)) → AllByRecursion (NoneBefore k) gss → AllByRecursion (λ q. NotLess q k) (keys (merged_groups gss))
 merged-none_before k [] all = tt
 merged-none_before k (gs ∷ gss) all =
     let later = merged-none_before k gss all.1 in
-    all_from_Has (λ q. NotLess q k) (keys (merged gs (merged_all gss))) (λ q h.
-    elim (with_keys-cases (keys gs) (keys (merged_all gss)) q (subst (λ (l : List (List ℕ)). Has l q) (merged-keys gs (merged_all gss)) h)) [
+    all_from_Has (λ q. NotLess q k) (keys (merged gs (merged_groups gss))) (λ q h.
+    elim (with_keys-cases (keys gs) (keys (merged_groups gss)) q (subst (λ (l : List (List ℕ)). Has l q) (merged-keys gs (merged_groups gss)) h)) [
       | inl a ↦ (let w = Has-map_from (λ (g : Group). g.key) gs q a in subst (λ r. NotLess r k) w.2 (Has-all (λ g. NotLess g.key k) gs w.0 all.0 w.1))
-      | inr b ↦ Has-all (λ r. NotLess r k) (keys (merged_all gss)) q later b
+      | inr b ↦ Has-all (λ r. NotLess r k) (keys (merged_groups gss)) q later b
     ])
 
 -- ---- one step of the cursors
@@ -233,8 +234,8 @@ step-of job at old new line b r =
       back = b.back;
       was = b.is;
       now = r.set ∙ ap (λ (xs : List Cursor). set xs at r.next) b.is ∙ set_at b.front b.one b.back r.next at b.place;
-      left_one = ap (λ (o : Option Line). headed o (map (moved_group b.one.before) (groups_in job b.one.rest.now))) b.head
-          ∙ ap (λ (gs : List Group). group_of line ∷ gs) (sym (r.left ∙ ap (λ (c : Cursor). map (moved_group c.before) (groups_in job c.rest.now)) same));
+      left_one = ap (λ (o : Option Line). headed o (map (shifted_group (past_files b.one.before)) (groups_in job b.one.rest.now))) b.head
+          ∙ ap (λ (gs : List Group). group_of line ∷ gs) (sym (r.left ∙ ap (λ (c : Cursor). map (shifted_group (past_files c.before)) (groups_in job c.rest.now)) same));
       head = b.head;
       past = b.past;
       not_before = b.not_before;
@@ -257,7 +258,7 @@ module _ (job : JobSpec) (old new : List Cursor) (line : Line) (s : Step job old
   step-stands_one : Stands job s.next → Stands job s.one
   step-stands_one h = record {
     rest = s.behind h.rest;
-    in_order = subst NoneFalls (sym s.left_one) (none-before_line line s.next.head (map (moved_group s.next.before) (groups_in job s.next.rest.now)) s.order h.in_order, h.in_order);
+    in_order = subst NoneFalls (sym s.left_one) (none-before_line line s.next.head (map (shifted_group (past_files s.next.before)) (groups_in job s.next.rest.now)) s.order h.in_order, h.in_order);
   }
 
   pub step-stands : AllByRecursion (Stands job) new → AllByRecursion (Stands job) old
@@ -270,7 +271,7 @@ module _ (job : JobSpec) (old new : List Cursor) (line : Line) (s : Step job old
 
   apart-all : (cs : List Cursor) → AllByRecursion (λ c. Past line c.head) cs → AllByRecursion (Stands job) cs → AllByRecursion (AllByRecursion (λ h. h.key ≡ line.key.now → ⊥)) (map (left job) cs)
   apart-all [] p h = tt
-  apart-all (c ∷ cs) p h = (none-equal line c.head (map (moved_group c.before) (groups_in job c.rest.now)) p.0 h.0.in_order, apart-all cs p.1 h.1)
+  apart-all (c ∷ cs) p h = (none-equal line c.head (map (shifted_group (past_files c.before)) (groups_in job c.rest.now)) p.0 h.0.in_order, apart-all cs p.1 h.1)
 
   none_before-past : (cs : List Cursor) → AllByRecursion (λ c. Past line c.head) cs → AllByRecursion (λ c. NotBefore line c.head) cs
   none_before-past cs p = all-map (λ (c : Cursor). Past line c.head) (λ (c : Cursor). NotBefore line c.head) cs (λ c q. one c.head q) p
@@ -281,16 +282,16 @@ module _ (job : JobSpec) (old new : List Cursor) (line : Line) (s : Step job old
 
   none_before-all : (cs : List Cursor) → AllByRecursion (λ c. NotBefore line c.head) cs → AllByRecursion (Stands job) cs → AllByRecursion (NoneBefore line.key.now) (map (left job) cs)
   none_before-all [] p h = tt
-  none_before-all (c ∷ cs) p h = (none-before_line line c.head (map (moved_group c.before) (groups_in job c.rest.now)) p.0 h.0.in_order, none_before-all cs p.1 h.1)
+  none_before-all (c ∷ cs) p h = (none-before_line line c.head (map (shifted_group (past_files c.before)) (groups_in job c.rest.now)) p.0 h.0.in_order, none_before-all cs p.1 h.1)
 
-  pub step-pull : AllByRecursion (Stands job) new → merged_all (map (left job) old) ≡ with_group (group_of line) (merged_all (map (left job) new))
+  pub step-pull : AllByRecursion (Stands job) new → merged_groups (map (left job) old) ≡ with_group (group_of line) (merged_groups (map (left job) new))
   step-pull all =
       let r = all-split (Stands job) s.front (s.next ∷ s.back) (subst (AllByRecursion (Stands job)) s.now all) in
-      ap (λ (cs : List Cursor). merged_all (map (left job) cs)) s.was ∙ ap merged_all (lefts-of s.front s.one s.back)
-      ∙ ap (λ (gs : List Group). merged_all (map (left job) s.front ++ gs ∷ map (left job) s.back)) s.left_one
+      ap (λ (cs : List Cursor). merged_groups (map (left job) cs)) s.was ∙ ap merged_groups (lefts-of s.front s.one s.back)
+      ∙ ap (λ (gs : List Group). merged_groups (map (left job) s.front ++ gs ∷ map (left job) s.back)) s.left_one
       ∙ pull_split (map (left job) s.front) (group_of line) (left job s.next) (map (left job) s.back) (apart-all s.front s.past r.0)
-      ∙ ap (λ (gss : List (List Group)). with_group (group_of line) (merged_all gss)) (sym (lefts-of s.front s.next s.back))
-      ∙ ap (λ (cs : List Cursor). with_group (group_of line) (merged_all (map (left job) cs))) (sym s.now)
+      ∙ ap (λ (gss : List (List Group)). with_group (group_of line) (merged_groups gss)) (sym (lefts-of s.front s.next s.back))
+      ∙ ap (λ (cs : List Cursor). with_group (group_of line) (merged_groups (map (left job) cs))) (sym s.now)
 
   pub step-behind : AllByRecursion (Stands job) new → AllByRecursion (NoneBefore line.key.now) (map (left job) new)
   step-behind all =

@@ -7,12 +7,13 @@ use Rattle.mr_sequential.proofs.KeyLaws.{bytes_eq-same}
 use Rattle.mr_shards.specs.declared.cursor.Cursor.{Cursor}
 use Rattle.mr_shards.specs.declared.line.Line.{Line}
 use Rattle.mr_shards.specs.declared.merger.ShardText.{ShardText}
-use Rattle.mr_shards.specs.Merged.{Group, joined, moved_group, moved_value}
+use Rattle.mr_shards.specs.Merged.{Group, joined}
 use Rattle.mr_shards.specs.Lines.{groups_in}
 use Rattle.mr_shards.specs.Views.{group_of}
 use Rattle.mr_shards.specs.Cursors.{left, Goes}
 use Rattle.mr_shards.specs.Refused.{Overflows, total_of, values_among, values_with}
-use Rattle.mr_shards.specs.Outputs.{parts_in, moved_parts}
+use Rattle.mr_shards.specs.Outputs.{parts_in}
+use Rattle.mr_shards.specs.Portions.{Shift, behind, no_shift, past_files, shifted_group, shifted_parts, shifted_value}
 use Rattle.mr_shards.proofs.StepLemmas.{Step}
 
 -- the values that one group has for a key
@@ -41,23 +42,24 @@ unfolding values_among
 among-append key [] ys = omega arith
 among-append key (x ∷ xs) ys = omega (arith, among-append key xs ys)
 
-with-moved : (key : List ℕ) (n : ℕ) (gs : List Group) → values_with key (map (moved_group n) gs) ≡ values_with key gs
+with-shifted : (key : List ℕ) (s : Shift) (gs : List Group) → values_with key (map (shifted_group s) gs) ≡ values_with key gs
 unfolding values_with
-with-moved key n [] = refl
-with-moved key n (g ∷ gs) =
-    let same : length (map (moved_value n) g.values) ≡ length g.values = length-map g.values (moved_value n) in
-    ap (λ k. cond (bytes_eq g.key key) k 0 + values_with key (map (moved_group n) gs)) same
-    ∙ ap (λ k. one_of key g + k) (with-moved key n gs)
+with-shifted key s [] = refl
+with-shifted key s (g ∷ gs) =
+    let same : length (map (shifted_value s) g.values) ≡ length g.values = length-map g.values (shifted_value s) in
+    ap (λ k. cond (bytes_eq g.key key) k 0 + values_with key (map (shifted_group s) gs)) same
+    ∙ ap (λ k. one_of key g + k) (with-shifted key s gs)
 
-among-moved : (key : List ℕ) (job : JobSpec) (n : ℕ) (os : List ShardText) → values_among key (moved_parts n (parts_in job os)) ≡ total_of job os key
+among-shifted : (key : List ℕ) (job : JobSpec) (s : Shift) (os : List ShardText) → values_among key (shifted_parts s (parts_in job os)) ≡ total_of job os key
 unfolding values_among
-among-moved key job n [] = refl
-among-moved key job n (o ∷ os) =
-    ap (λ k. k + values_among key (moved_parts (n + o.files) (parts_in job os))) (with-moved key n (groups_in job o.text.now))
-    ∙ ap (λ k. values_with key (groups_in job o.text.now) + k) (among-moved key job (n + o.files) os)
+among-shifted key job s [] = refl
+among-shifted key job s (o ∷ os) =
+    let next : Shift = behind s (past_files o.files) in
+    ap (λ k. k + values_among key (shifted_parts next (parts_in job os))) (with-shifted key s (groups_in job o.text.now))
+    ∙ ap (λ k. values_with key (groups_in job o.text.now) + k) (among-shifted key job next os)
 
-pub within-first : (job : JobSpec) (outputs : List ShardText) (cs : List Cursor) → map (left job) cs ≡ moved_parts 0 (parts_in job outputs) → IsWithin job outputs cs None
-within-first job outputs cs lefts key = omega (arith, ap (values_among key) lefts, among-moved key job 0 outputs)
+pub within-first : (job : JobSpec) (outputs : List ShardText) (cs : List Cursor) → map (left job) cs ≡ shifted_parts no_shift (parts_in job outputs) → IsWithin job outputs cs None
+within-first job outputs cs lefts key = omega (arith, ap (values_among key) lefts, among-shifted key job no_shift outputs)
 
 -- ---- a line that goes in
 

@@ -9,7 +9,7 @@ use Rattle.mr_sequential.proofs.SourceLemmas.{flat_map-append}
 use Rattle.mr_shards.specs.declared.merger.ShardText.{ShardText}
 use Rattle.mr_shards.specs.declared.window.Held.{Held}
 use Rattle.mr_shards.specs.declared.window.Window.{Window}
-use Rattle.mr_shards.specs.Merged.{Group, group_text, merged_parts, moved_group, texts}
+use Rattle.mr_shards.specs.Merged.{Group, group_text, texts}
 use Rattle.mr_shards.specs.Lines.{group_in, groups_in, lines}
 use Rattle.mr_shards.specs.Outputs.{parts_in}
 use Rattle.mr_shards.specs.Refused.{InTurn, IsLineOf, IsRest, MayFollow}
@@ -21,6 +21,7 @@ use Rattle.mr_shards.proofs.StepLemmas.{all-append, all-map}
 use Rattle.mr_shards.proofs.PlaceLemmas.{down, follows, next-before, past-before, past-next, strict, strict-before, strict-next}
 use Rattle.mr_shards.proofs.WovenLaws.{IsRead, woven, woven-all, woven-text, woven_parts}
 use Rattle.mr_shards.proofs.ApartLaws.{High, Low, all-keys, all-moved, high-strict, woven-apart}
+use Rattle.mr_shards.specs.Portions.{merged_portions, past_files, shifted_group}
 use Rattle.mr_shards.proofs.CutLemmas.{AreEnding, Ends, IsCut, begins, cut-of, groups-before}
 
 -- ---- texts of lines
@@ -216,14 +217,14 @@ pub record Sums (job : JobSpec) (b : Option Bound) (rs : List Reading) (cs : Lis
 sum-more : (job : JobSpec) (b : Option Bound) (gs hs new : List Group) (xs ys all : List Group) (files files' : ℕ) → Suits job b → new ≡ gs ++ hs
     → all ≡ xs ++ ys → files' ≡ files
     → Low b gs → High (next_bound b) hs → Low (next_bound b) xs → High (strict b) ys
-    → woven (counts job) new (map (moved_group files) all)
-    ≡ woven (counts job) gs (map (moved_group files) xs) ++ woven (counts job) hs (map (moved_group files') ys)
+    → woven (counts job) new (map (shifted_group (past_files files)) all)
+    ≡ woven (counts job) gs (map (shifted_group (past_files files)) xs) ++ woven (counts job) hs (map (shifted_group (past_files files')) ys)
 sum-more job b gs hs new xs ys all files files' suits e s same lg hh lx hy =
-    (λ i. woven (counts job) (e i) (map (moved_group files) (s i)))
-    ∙ ap (woven (counts job) (gs ++ hs)) (map-append (moved_group files) xs ys)
-    ∙ woven-apart job b suits gs hs (map (moved_group files) xs) (map (moved_group files) ys) lg hh
+    (λ i. woven (counts job) (e i) (map (shifted_group (past_files files)) (s i)))
+    ∙ ap (woven (counts job) (gs ++ hs)) (map-append (shifted_group (past_files files)) xs ys)
+    ∙ woven-apart job b suits gs hs (map (shifted_group (past_files files)) xs) (map (shifted_group (past_files files)) ys) lg hh
     (all-moved (IsBefore (next_bound b)) files xs lx) (all-moved (λ k. IsBefore (strict b) k → ⊥) files ys hy)
-    ∙ ap (λ k. woven (counts job) gs (map (moved_group files) xs) ++ woven (counts job) hs (map (moved_group k) ys)) (sym same)
+    ∙ ap (λ k. woven (counts job) gs (map (shifted_group (past_files files)) xs) ++ woven (counts job) hs (map (shifted_group (past_files k)) ys)) (sym same)
 
 read-taken : (job : JobSpec) (b : Option Bound) (hs : List Held) (rs : List Reading) → AreTaken job b hs rs → AllByRecursion (IsRead job) (map (part_taken job) rs)
 read-taken job b [] [] t = tt
@@ -258,9 +259,9 @@ module _ (job : JobSpec) where
         woven_is = sum-more job b (groups_in job (front r)) (groups_in job o.text.now) (groups_in job (front (on r c))) xs ys
             (woven_taken job (taken_on cs rs)) r.output.files o.files t.0.together g.groups s.woven_is g.files g.low g.high s.low high;
         parts_read = ((front (on r c), g.stands_on, refl), s.parts_read);
-        low = woven-all (counts job) (IsBefore b) (groups_in job (front r)) (map (moved_group r.output.files) xs) g.low
+        low = woven-all (counts job) (IsBefore b) (groups_in job (front r)) (map (shifted_group (past_files r.output.files)) xs) g.low
             (all-moved (IsBefore b) r.output.files xs (all-map (IsBefore (next_bound b)) (IsBefore b) (keys xs) (λ k low. next-before b k low) s.low));
-        high = woven-all (counts job) (λ k. IsBefore (strict b) k → ⊥) (groups_in job o.text.now) (map (moved_group o.files) ys)
+        high = woven-all (counts job) (λ k. IsBefore (strict b) k → ⊥) (groups_in job o.text.now) (map (shifted_group (past_files o.files)) ys)
             (high-strict b (groups_in job o.text.now) g.high)
             (all-moved (λ k. IsBefore (strict b) k → ⊥) o.files ys high);
       }
@@ -268,7 +269,7 @@ module _ (job : JobSpec) where
   pub text-on : (b : Option Bound) (hs : List Held) (rs : List Reading) (ws : List Window) (cs : List ℕ) (os : List ShardText) → AreTaken job b hs rs
       → AreWindows rs ws → AreWithin cs ws
       → map told os ≡ pieces_of hs ws cs → AllStand job os
-      → text_taken job (taken_on cs rs) ≡ text_taken job rs ++ texts job (merged_parts (parts_in job os))
+      → text_taken job (taken_on cs rs) ≡ text_taken job rs ++ texts job (merged_portions (parts_in job os))
   text-on b hs rs ws cs os t v fits e all =
       let s = sums b hs rs ws cs os t v fits e all in
       woven-text job (map (part_taken job) (taken_on cs rs)) s.parts_read
@@ -340,7 +341,7 @@ wholes job b (h ∷ hs) (r ∷ rs) (w ∷ ws) (o ∷ os) t v e all last =
     let one : IsRest job None (front (on r (whole_window w))) = (grows job b h r w (whole_window w) o t.0 v.0 fits here all.0).stands_on in
     record {
       stands = (subst (IsRest job None) is one, s.stands);
-      parts_are = λ i. record { files = r.output.files; groups = groups_in job (is i) } ∷ s.parts_are i;
+      parts_are = λ i. record { shift = past_files r.output.files; groups = groups_in job (is i) } ∷ s.parts_are i;
     }
 
 -- ---- nothing taken

@@ -11,14 +11,16 @@ use Rattle.mr_bytes.specs.Lists.{Rises}
 use Rattle.mr_bytes.specs.Order.{key_order}
 use Rattle.mr_jobs.specs.JobSpec.{JobSpec, WordCount, LinesWith, Resources, InvertedIndex, counts}
 use Rattle.mr_sequential.proofs.KeyLaws.{key_tie}
-use Rattle.mr_shards.specs.Merged.{Group, Part, joined, merged, merged_parts, moved_group, moved_value, texts, with_group}
+use Rattle.mr_shards.specs.Merged.{Group, joined, merged, texts, with_group}
 use Rattle.mr_shards.specs.Lines.{group_in, groups_in, lines}
 use Rattle.mr_shards.specs.Refused.{IsRest}
 use Rattle.mr_shards.proofs.IndexLemmas.{rest-no_groups}
 use Rattle.mr_shards.proofs.MergedLaws.{keys, merged-rise}
 use Rattle.mr_shards.proofs.StepLemmas.{NotLess, all-map, not_less-itself, turned}
 use Rattle.mr_shards.proofs.PlaceLemmas.{not-back}
-use Rattle.mr_shards.proofs.WholeLaws.{all-texts, moved-rise, one-each}
+use Rattle.mr_shards.specs.Portions.{Part, Shift, merged_portions, shifted_group, shifted_value}
+use Rattle.mr_shards.proofs.ShiftLemmas.{shifted-rise}
+use Rattle.mr_shards.proofs.WholeLaws.{all-texts, one-each}
 
 -- ---- lines merged with lines
 
@@ -33,7 +35,7 @@ woven joins (g ∷ gs) hs = with_line joins g (woven joins gs hs)
 
 abbrev pub woven_parts : Bool → List Part → List Group
 woven_parts joins [] = []
-woven_parts joins (a ∷ rest) = woven joins a.groups (map (moved_group a.files) (woven_parts joins rest))
+woven_parts joins (a ∷ rest) = woven joins a.groups (map (shifted_group a.shift) (woven_parts joins rest))
 
 pub woven-append : (joins : Bool) (xs ys hs : List Group) → woven joins (xs ++ ys) hs ≡ woven joins xs (woven joins ys hs)
 woven-append joins [] ys hs = refl
@@ -113,11 +115,11 @@ woven-joined : (gs hs : List Group) → woven true gs hs ≡ merged gs hs
 woven-joined [] hs = refl
 woven-joined (g ∷ gs) hs = with-joined g (woven true gs hs) ∙ ap (with_group g) (woven-joined gs hs)
 
-parts-joined : (ps : List Part) → merged_parts ps ≡ woven_parts true ps
+parts-joined : (ps : List Part) → merged_portions ps ≡ woven_parts true ps
 parts-joined [] = refl
 parts-joined (a ∷ rest) =
-    ap (λ (l : List Group). merged a.groups (map (moved_group a.files) l)) (parts-joined rest)
-    ∙ sym (woven-joined a.groups (map (moved_group a.files) (woven_parts true rest)))
+    ap (λ (l : List Group). merged a.groups (map (shifted_group a.shift) l)) (parts-joined rest)
+    ∙ sym (woven-joined a.groups (map (shifted_group a.shift) (woven_parts true rest)))
 
 -- ---- of places these are the lines of the merged groups
 
@@ -198,22 +200,22 @@ each-merged (g ∷ gs) hs rise =
     each-with g (merged gs hs) (merged-rise gs hs rise) ∙ ap (woven false (one-each g.key g.values)) (each-merged gs hs rise)
     ∙ sym (woven-append false (one-each g.key g.values) (each gs) (each hs))
 
-one-moved : (n : ℕ) (k : List ℕ) (vs : List Value) → one-each k (map (moved_value n) vs) ≡ map (moved_group n) (one-each k vs)
+one-moved : (s : Shift) (k : List ℕ) (vs : List Value) → one-each k (map (shifted_value s) vs) ≡ map (shifted_group s) (one-each k vs)
 unfolding one-each
-one-moved n k [] = refl
-one-moved n k (v ∷ vs) = ap (λ (l : List Group). record { key = k; values = moved_value n v ∷ [] } ∷ l) (one-moved n k vs)
+one-moved s k [] = refl
+one-moved s k (v ∷ vs) = ap (λ (l : List Group). record { key = k; values = shifted_value s v ∷ [] } ∷ l) (one-moved s k vs)
 
-each-moved : (n : ℕ) (gs : List Group) → each (map (moved_group n) gs) ≡ map (moved_group n) (each gs)
-each-moved n [] = refl
-each-moved n (g ∷ gs) =
-    (λ i. one-moved n g.key g.values i ++ each-moved n gs i) ∙ sym (map-append (moved_group n) (one-each g.key g.values) (each gs))
+each-moved : (s : Shift) (gs : List Group) → each (map (shifted_group s) gs) ≡ map (shifted_group s) (each gs)
+each-moved s [] = refl
+each-moved s (g ∷ gs) =
+    (λ i. one-moved s g.key g.values i ++ each-moved s gs i) ∙ sym (map-append (shifted_group s) (one-each g.key g.values) (each gs))
 
-each-parts : (ps : List Part) → AllByRecursion (λ (p : Part). each p.groups ≡ p.groups) ps → each (merged_parts ps) ≡ woven_parts false ps
+each-parts : (ps : List Part) → AllByRecursion (λ (p : Part). each p.groups ≡ p.groups) ps → each (merged_portions ps) ≡ woven_parts false ps
 each-parts [] all = refl
 each-parts (a ∷ rest) all =
-    each-merged a.groups (map (moved_group a.files) (merged_parts rest)) (moved-rise a.files rest)
-    ∙ (λ i. woven false (all.0 i) (each-moved a.files (merged_parts rest) i))
-    ∙ ap (λ (l : List Group). woven false a.groups (map (moved_group a.files) l)) (each-parts rest all.1)
+    each-merged a.groups (map (shifted_group a.shift) (merged_portions rest)) (shifted-rise a.shift rest)
+    ∙ (λ i. woven false (all.0 i) (each-moved a.shift (merged_portions rest) i))
+    ∙ ap (λ (l : List Group). woven false a.groups (map (shifted_group a.shift) l)) (each-parts rest all.1)
 
 -- ---- the text of parts that are read
 
@@ -240,22 +242,22 @@ none-read : (keep_case : Bool) (ps : List Part) → AllByRecursion (IsRead (Inve
 none-read keep_case [] all = tt
 none-read keep_case (p ∷ ps) all = (all.0.2 ∙ rest-no_groups keep_case all.0.0 all.0.1, none-read keep_case ps all.1)
 
-none-merged : (ps : List Part) → AllByRecursion (λ (p : Part). p.groups ≡ []) ps → merged_parts ps ≡ []
+none-merged : (ps : List Part) → AllByRecursion (λ (p : Part). p.groups ≡ []) ps → merged_portions ps ≡ []
 none-merged [] all = refl
 none-merged (p ∷ ps) all =
     let rest = none-merged ps all.1 in
-    λ i. merged (all.0 i) (map (moved_group p.files) (rest i))
+    λ i. merged (all.0 i) (map (shifted_group p.shift) (rest i))
 
 none-woven : (joins : Bool) (ps : List Part) → AllByRecursion (λ (p : Part). p.groups ≡ []) ps → woven_parts joins ps ≡ []
 none-woven joins [] all = refl
 none-woven joins (p ∷ ps) all =
     let rest = none-woven joins ps all.1 in
-    λ i. woven joins (all.0 i) (map (moved_group p.files) (rest i))
+    λ i. woven joins (all.0 i) (map (shifted_group p.shift) (rest i))
 
-pub woven-text : (job : JobSpec) (ps : List Part) → AllByRecursion (IsRead job) ps → texts job (merged_parts ps) ≡ texts job (woven_parts (counts job) ps)
+pub woven-text : (job : JobSpec) (ps : List Part) → AllByRecursion (IsRead job) ps → texts job (merged_portions ps) ≡ texts job (woven_parts (counts job) ps)
 woven-text (WordCount keep_case) ps all = ap (texts (WordCount keep_case)) (parts-joined ps)
 woven-text (LinesWith literal fold) ps all =
-    sym (all-texts literal fold (merged_parts ps)) ∙ ap (texts (LinesWith literal fold)) (each-parts ps (each-read literal fold ps all))
+    sym (all-texts literal fold (merged_portions ps)) ∙ ap (texts (LinesWith literal fold)) (each-parts ps (each-read literal fold ps all))
 woven-text Resources ps all = ap (texts Resources) (parts-joined ps)
 woven-text (InvertedIndex keep_case) ps all =
     let none = none-read keep_case ps all in

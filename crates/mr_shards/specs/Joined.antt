@@ -6,12 +6,13 @@ use Rattle.mr_bytes.specs.Lists.{Distinct, Has}
 use Rattle.mr_input.specs.Files.{nth_file}
 use Rattle.mr_jobs.specs.JobSpec.{JobSpec, RequestSpec}
 use Rattle.mr_shards.specs.declared.merger.ShardText.{ShardText}
-use Rattle.mr_shards.specs.Merged.{merged_parts, texts}
+use Rattle.mr_shards.specs.Merged.{texts}
 use Rattle.mr_shards.specs.Outputs.{IsOutputOfAll, parts_in}
-use Rattle.mr_shards.specs.Shards.{moved_name}
 use Rattle.mr_shards.specs.declared.joining.JoinFault.{JoinFault}
 use Rattle.mr_shards.specs.declared.joining.JoinFault.TheVariants.{OtherRequest, TooManySplits, TooManyPairs, OutOfMemory}
 use Rattle.mr_shards.specs.Verdict.{Note, Told}
+use Rattle.mr_shards.specs.Portions.{merged_portions}
+use Rattle.mr_shards.specs.Spots.{moved_name}
 use Rattle.mr_shards.specs.Truth.{AreNotesOf, Asks, IsTrueOf}
 
 -- the splits of a file of so many bytes, and of the files that notes tell of
@@ -117,7 +118,7 @@ AreOutputsAt p _ _ _ = ⊥
 -- the output of a partition is the text of the merged groups of the shards' outputs, and whatever judged shards those are
 -- of, that of the sequential execution over all
 abbrev pub IsMergedAt : JobSpec → List Told → List (List (List ℕ)) → ℕ → List ℕ → Type 0
-IsMergedAt job vs parts p output = (os : List ShardText) × AreOutputsAt p vs parts os × (output ≡ texts job (merged_parts (parts_in job os)))
+IsMergedAt job vs parts p output = (os : List ShardText) × AreOutputsAt p vs parts os × (output ≡ texts job (merged_portions (parts_in job os)))
     × IsOutputOfAll job os output
 
 abbrev pub AreMerged : RequestSpec → List Told → List (List (List ℕ)) → List (List ℕ) → Type 0

@@ -4,11 +4,11 @@ use Rattle.std.specs.List.{AllByRecursion}
 use Rattle.mr_bytes.specs.declared.RecordName.{RecordName}
 use Rattle.mr_bytes.specs.Lists.{Has}
 use Rattle.mr_jobs.specs.JobSpec.{RequestSpec}
-use Rattle.mr_shards.specs.Shards.{moved_name}
 use Rattle.mr_shards.specs.declared.joining.JoinFault.{JoinFault}
 use Rattle.mr_shards.specs.declared.joining.JoinFault.TheVariants.{OtherRequest, TooManySplits, TooManyPairs, OutOfMemory}
 use Rattle.mr_shards.specs.Joined.{IsCounted, splits_told}
 use Rattle.mr_shards.specs.Truth.{Asks}
+use Rattle.mr_shards.specs.Spots.{moved_name}
 use Rattle.mr_shards.specs.Verdict.{Told}
 
 -- the request of both is one

@@ -5,7 +5,6 @@ pub mod Merged
 pub mod Outputs
 pub mod Pieces
 pub mod Refused
-pub mod Shards
 pub mod Views
 pub mod Places
 pub mod Laws
@@ -14,3 +13,13 @@ pub mod Reading
 pub mod Truth
 pub mod Joined
 pub mod Joining
+pub mod Portions
+pub mod Spots
+pub mod Cut
+pub mod PortionLaws
+pub mod Index
+pub mod PortionLines
+pub mod RangeNotes
+pub mod Gaps
+pub mod RangeVerdicts
+pub mod Rows

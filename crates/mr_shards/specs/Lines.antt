@@ -1,5 +1,5 @@
 -- Outputs as lines, and the merge of the outputs of shards.
-use Rattle.std.specs.Prelude.{◌≡◌, ℕ, ◌<◌, ◌^◌, ◌==◌, Bool, if◌then◌else◌, List, [], ◌∷◌, map, replicate, length}
+use Rattle.std.specs.Prelude.{◌≡◌, ◌⊎◌, ℕ, ◌<◌, ◌^◌, ◌==◌, Bool, if◌then◌else◌, List, [], ◌∷◌, ◌++◌, map, replicate, length}
 use Rattle.std.specs.List.{AllByRecursion, list_any}
 use Rattle.std.specs.Str.Parse.{digits_value}
 use Rattle.std.specs.declared.cmp.Ordering.TheVariants.{Less}
@@ -20,6 +20,10 @@ longer b (l ∷ ls) = (b ∷ l) ∷ ls
 unfoldable pub lines : List ℕ → List (List ℕ)
 lines [] = []
 lines (b ∷ bs) = if b == 10 then [] ∷ lines bs else longer b (lines bs)
+
+-- the bytes end with a line, or there are none
+abbrev pub EndsLine : List ℕ → Type 0
+EndsLine text = (text ≡ []) ⊎ ((first : List ℕ) × (text ≡ first ++ 10 ∷ []))
 
 abbrev pub has_byte : ℕ → List ℕ → Bool
 has_byte b xs = list_any (λ x. x == b) xs
@@ -45,12 +49,24 @@ CanMerge (LinesWith literal fold) = Unit {0}
 CanMerge Resources = Unit {0}
 CanMerge (InvertedIndex keep_case) = ⊥
 
--- the values that a line tells behind its last tab: so many, or a place; a line of an index is not read
+-- what stands between commas
+unfoldable pub fields : List ℕ → List (List ℕ)
+fields [] = [] ∷ []
+fields (b ∷ bs) = if b == 44 then [] ∷ fields bs else longer b (fields bs)
+
+abbrev pub numbers_in : List ℕ → List ℕ
+numbers_in list = map (digits_value 10) (fields list)
+
+-- a place in each of the files: which one, a line of an index doesn't state
+abbrev pub places_in : List ℕ → List Value
+places_in files = map (λ file. At file 0) files
+
+-- the values that a line states behind its last tab: so many, a place, or a place in each file of an index
 abbrev pub values_in : JobSpec → List ℕ → List Value
 values_in (WordCount keep_case) told = replicate (digits_value 10 told) One
 values_in (LinesWith literal fold) told = At (digits_value 10 (before_byte 58 told)) (digits_value 10 (after_first 58 told)) ∷ []
 values_in Resources told = replicate (digits_value 10 told) One
-values_in (InvertedIndex keep_case) told = []
+values_in (InvertedIndex keep_case) told = places_in (numbers_in told)
 
 -- the group that a line tells
 abbrev pub group_in : JobSpec → List ℕ → Group

@@ -1,9 +1,8 @@
 -- The groups of a partition, and how those of two inputs are merged.
-use Rattle.std.specs.Prelude.{ℕ, ◌+◌, List, [], ◌∷◌, ◌++◌, map}
+use Rattle.std.specs.Prelude.{ℕ, List, [], ◌∷◌, ◌++◌, map}
 use Rattle.std.specs.List.{flat_map}
 use Rattle.std.specs.Ordering.{match_ordering}
 use Rattle.mr_bytes.specs.declared.Value.{Value}
-use Rattle.mr_bytes.specs.declared.Value.TheVariants.{One, At}
 use Rattle.mr_bytes.specs.Order.{key_order}
 use Rattle.mr_jobs.specs.JobSpec.{JobSpec}
 use Rattle.mr_reduce.specs.Text.{text_of}
@@ -42,21 +41,3 @@ with_group g (h ∷ hs) = match_ordering (key_order g.key h.key) (g ∷ h ∷ hs
 abbrev pub merged : List Group → List Group → List Group
 merged [] hs = hs
 merged (g ∷ gs) hs = with_group g (merged gs hs)
-
--- a value, a group, where so many files come before its own
-abbrev pub moved_value : ℕ → Value → Value
-moved_value files One = One
-moved_value files (At file offset) = At (files + file) offset
-
-abbrev pub moved_group : ℕ → Group → Group
-moved_group files g = record { key = g.key; values = map (moved_value files) g.values }
-
--- what a shard hands to the merge: how many files it has, and its groups
-pub record Part : Type 0 where
-  pub files : ℕ
-  pub groups : List Group
-
--- the groups of all parts: those of the first, with those of the others, whose file numbers go on behind its own
-abbrev pub merged_parts : List Part → List Group
-merged_parts [] = []
-merged_parts (a ∷ rest) = merged a.groups (map (moved_group a.files) (merged_parts rest))

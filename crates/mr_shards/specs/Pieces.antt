@@ -9,9 +9,10 @@ use Rattle.mr_shards.specs.declared.merger.MergeFault.TheVariants.{BadLine, Tota
 use Rattle.mr_shards.specs.declared.merger.ShardText.{ShardText}
 use Rattle.mr_shards.specs.declared.window.Held.{Held}
 use Rattle.mr_shards.specs.declared.window.Window.{Window}
-use Rattle.mr_shards.specs.Merged.{Group, Part, merged_parts, texts}
-use Rattle.mr_shards.specs.Lines.{before_last, groups_in, lines}
+use Rattle.mr_shards.specs.Merged.{Group, texts}
+use Rattle.mr_shards.specs.Lines.{EndsLine, before_last, groups_in, lines}
 use Rattle.mr_shards.specs.Outputs.{IsOutputOfAll, parts_in}
+use Rattle.mr_shards.specs.Portions.{Part, merged_portions, past_files}
 use Rattle.mr_shards.specs.Refused.{Blames, IsRest}
 
 -- a place among the merged lines: all lines with lesser keys are before it, and of those with this key all of the first shards,
@@ -54,10 +55,10 @@ behind r = drop r.taken r.output.text.now
 
 -- the part that was taken, and the text of all
 abbrev pub part_taken : JobSpec → Reading → Part
-part_taken job r = record { files = r.output.files; groups = groups_in job (front r) }
+part_taken job r = record { shift = past_files r.output.files; groups = groups_in job (front r) }
 
 abbrev pub text_taken : JobSpec → List Reading → List ℕ
-text_taken job rs = texts job (merged_parts (map (part_taken job) rs))
+text_taken job rs = texts job (merged_portions (map (part_taken job) rs))
 
 -- a line of the first shard with this key is before the place, which is of so many shards: where of none, lines with lesser
 -- keys alone are, and else those with its own key too
@@ -205,10 +206,6 @@ AreWithin [] (w ∷ ws) = ⊥
 AreWithin (c ∷ cs) [] = ⊥
 AreWithin (c ∷ cs) (w ∷ ws) = (c ≤ length w.bytes.now) × AreWithin cs ws
 
--- the bytes end with a line, or there are none
-abbrev pub EndsLine : List ℕ → Type 0
-EndsLine text = (text ≡ []) ⊎ ((first : List ℕ) × (text ≡ first ++ 10 ∷ []))
-
 -- whole lines are taken of each window
 abbrev pub AreLines : List ℕ → List Window → Type 0
 AreLines [] [] = Unit {0}
@@ -244,7 +241,7 @@ pub record ArePut (job : JobSpec) (pieces : List (ℕ × List ℕ)) (out out' : 
   pub outputs : List ShardText
   pub are : map told outputs ≡ pieces
   pub stands : AllByRecursion (λ (o : ShardText). IsRest job None o.text.now) outputs
-  pub out_is : out' ≡ out ++ texts job (merged_parts (parts_in job outputs))
+  pub out_is : out' ≡ out ++ texts job (merged_portions (parts_in job outputs))
 
 pub record AreBlamed (job : JobSpec) (hs : List Held) (pieces : List (ℕ × List ℕ)) (e : MergeFault) : Type 0 where
   pub outputs : List ShardText
@@ -279,7 +276,7 @@ taken_on (c ∷ cs) (r ∷ rs) = record { output = r.output; taken = r.taken + c
 -- the text is that of all outputs, each of which stands
 pub record IsMerged (job : JobSpec) (os : List ShardText) (text : List ℕ) : Type 0 where
   pub stands : AllByRecursion (λ (o : ShardText). IsRest job None o.text.now) os
-  pub text_is : text ≡ texts job (merged_parts (parts_in job os))
+  pub text_is : text ≡ texts job (merged_portions (parts_in job os))
   pub whole : IsOutputOfAll job os text
 
 -- from these readings, so much is taken of each window: the text grows by just what was added; where no window is more than

@@ -11,7 +11,7 @@ use Rattle.mr_jobs.specs.JobSpec.{ByFits, JobFits, PartsFit, RequestSpec, SplitF
 use Rattle.mr_sequential.specs.Emitted.{emitted}
 use Rattle.mr_sequential.specs.Sequential.{sequential}
 use Rattle.mr_shards.specs.Lines.{CanMerge}
-use Rattle.mr_shards.specs.Shards.{SkipsExist}
+use Rattle.mr_shards.specs.Spots.{SkipsExist}
 use Rattle.mr_shards.specs.Verdict.{Note, Told}
 
 -- the note of a file of that name and these bytes

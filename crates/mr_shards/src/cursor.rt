@@ -13,12 +13,12 @@
 ghost use Rattle.std.specs.Prelude.{◌≡◌, ℕ, List, IfOk, IfSome, IsTrue, MatchOption, Some, map};
 ghost use Rattle.std.specs.Prelude.{None, ◌↔◌, IfErr};
 ghost use Rattle.mr_shards.specs.Lines.{groups_in};
-ghost use Rattle.mr_shards.specs.Merged.{moved_group};
 ghost use Rattle.std.specs.List.{AllByRecursion};
 ghost use Rattle.std.specs.Ordering.{is_lt};
 ghost use Rattle.mr_bytes.specs.Order.{key_order};
 ghost use Rattle.mr_shards.specs.Cursors.{AreBeyond, AreBehind, Differs, DoesNotFall, HasFront};
 ghost use Rattle.mr_shards.specs.Cursors.{IsFound, IsFronted, IsHeadFor, left, least_from, lesser};
+ghost use Rattle.mr_shards.specs.Portions.{past_files, shifted_group};
 ghost use Rattle.mr_shards.specs.Refused.{BlamesOnly, IsReadOf, IsRestOf, MayFollow, last_key};
 
 use crate::line::{Line, first_line, moved};
@@ -66,7 +66,7 @@ pub(crate) fn advanced<'a>(
 ) -> Result<Cursor<'a>, MergeFault>
     requires { IsFronted cursor.head }
     ensures left { IfOk result (λ n. left job.now n
-        ≡ map (moved_group cursor.entry.before) (groups_in job.now cursor.entry.rest.now)) }
+        ≡ map (shifted_group (past_files cursor.entry.before)) (groups_in job.now cursor.entry.rest.now)) }
     ensures before { IfOk result (λ n. n.before ≡ cursor.entry.before) }
     ensures kind { IfOk result (IsHeadFor job.now) }
     ensures order { IfOk result (λ n. IfSome n.head (λ l. DoesNotFall cursor.entry.head l)) }

@@ -13,7 +13,7 @@ ghost use Rattle.std.specs.Prelude.{◌≡◌, ◌↔◌, ◌⊎◌, ℕ, ◌+�
 ghost use Rattle.std.specs.Prelude.{true, false, IfErr, IfOk, IfSome, MatchOption, OnOk, map};
 ghost use Rattle.std.specs.List.{AllByRecursion};
 ghost use Rattle.mr_bytes.specs.Lists.{Has};
-ghost use Rattle.mr_shards.specs.Shards.{moved_name};
+ghost use Rattle.mr_shards.specs.Spots.{moved_name};
 ghost use Rattle.mr_shards.specs.Joined.{AreOnce, IsJoinFault, IsJoined, IsRepeated, JoinedIsTrue};
 ghost use Rattle.mr_shards.specs.Joined.{splits_in as split_number, splits_told};
 ghost use Rattle.mr_shards.specs.Joining.{Follows, IsShardFault, IsTooFar};

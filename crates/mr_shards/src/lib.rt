@@ -1,39 +1,40 @@
 //! Shards: lists of an input's files are judged apart; their outputs merge to those of the whole.
 //! An index can't be merged: its lines name several files; a merged line has one total or place.
 //! Verdicts: what a judge accepted, as text for others; the verdicts of shards join to one.
+//! A merge takes shards of whole files. The laws (`portions.rt`, `ranges.rt`) hold for shards that
+//! are cut within a file too, at a line end, and for an index.
 #![tactic(auto)]
 
 mod cursor;
+mod file_numbers;
 mod joining;
 mod line;
 mod merger;
 mod piece;
+mod portions;
+mod ranges;
 mod reading;
+mod shift;
 mod verdict;
 mod window;
 
 ghost use Rattle.mr_shards.specs.Judged.{GoodIsJudged};
 ghost use Rattle.mr_shards.specs.Lines.{OneReading};
-ghost use Rattle.mr_shards.specs.Shards.{MergedAreSequential, OutputsAreTexts, SkipsStand};
 ghost use Rattle.mr_shards.specs.Laws.{OneText};
 
+pub use file_numbers::{add_files, index_law};
 pub use joining::{JoinFault, first_repeat, join_verdicts, joined_law};
 pub use line::number_of;
 pub use merger::{MergeFault, Merger, ShardText, merge_parts};
+pub use portions::{left_out_law, lines_law, portions_law, worked_law};
+pub use ranges::{FileRange, Gap, first_gap, goes_on, ranges_law, tile_law};
 pub use reading::read_verdict;
+pub use shift::{Shift, Spot, shift_past, shifted};
 pub use verdict::{
     FileNote, Verdict, VerdictFault, asks, is_note_of, note_for, request_of, verdict_for,
     write_verdict,
 };
 pub use window::Window;
-
-/// The merged text is the output of the sequential execution over all files, without the records
-/// that the shards leave out; if these rise and exist in each shard, they do in the whole.
-pub fn shard_law()
-    ensures texts { OutputsAreTexts }
-    ensures merged { MergedAreSequential }
-    ensures skips { SkipsStand }
-{}
 
 /// A text of lines has one reading.
 pub fn reading_law()

@@ -4,11 +4,12 @@ ghost use Rattle.std.specs.Prelude.{IfSome, MatchOption, None, Some, OnOk, decim
 ghost use Rattle.mr_jobs.specs.JobSpec.{counts};
 ghost use Rattle.mr_bytes.specs.Cut.{Lacks};
 ghost use Rattle.mr_shards.specs.Lines.{groups_in};
-ghost use Rattle.mr_shards.specs.Merged.{group_text, moved_group, moved_value};
+ghost use Rattle.mr_shards.specs.Merged.{group_text};
 ghost use Rattle.mr_shards.specs.declared.line.Tally.{Tally};
 ghost use Rattle.mr_shards.specs.Cursors.{HasFront};
 ghost use Rattle.mr_shards.specs.Refused.{IsFarPlace, IsLineOf, Overflows};
 ghost use Rattle.mr_shards.specs.Views.{BeginsWithLine, Combines, IsFor, IsSameKind, IsParsed};
+ghost use Rattle.mr_shards.specs.Portions.{past_files, shifted_group, shifted_value};
 ghost use Rattle.mr_shards.specs.Views.{group_of, values_of};
 
 use crate::merger::MergeFault;
@@ -181,7 +182,7 @@ pub(crate) fn first_line<'a>(job: &Job, text: &'a [u8]) -> Option<(Line<'a>, &'a
 }
 
 fn moved_tally(tally: Tally, files: u32) -> Result<Tally, MergeFault>
-    ensures values { IfOk result (λ t. values_of t ≡ map (moved_value files) (values_of tally)) }
+    ensures values { IfOk result (λ t. values_of t ≡ map (shifted_value (past_files files)) (values_of tally)) }
     ensures kind { IfOk result (λ t. IsSameKind tally t) }
     ensures err { IfErr result (λ e. (e ≡ MergeFault.TooManyFiles) × IsFarPlace files tally) }
 {
@@ -196,7 +197,7 @@ fn moved_tally(tally: Tally, files: u32) -> Result<Tally, MergeFault>
 
 /// The line, if `files` files come before those of its shard.
 pub(crate) fn moved<'a>(line: Line<'a>, files: u32) -> Result<Line<'a>, MergeFault>
-    ensures group { IfOk result (λ l. group_of l ≡ moved_group files (group_of line.entry)) }
+    ensures group { IfOk result (λ l. group_of l ≡ shifted_group (past_files files) (group_of line.entry)) }
     ensures kind { IfOk result (λ l. IsSameKind line.entry.tally l.tally) }
     ensures front { IfOk result (λ l. HasFront line.entry → HasFront l) }
     ensures err { IfErr result (λ e. (e ≡ MergeFault.TooManyFiles) × IsFarPlace files line.entry.tally) }

@@ -16,8 +16,9 @@ ghost use Rattle.mr_shards.specs.Places.{kept, shown};
 ghost use Rattle.std.specs.List.{AllByRecursion};
 ghost use Rattle.mr_shards.specs.Cursors.{BlamesAt, Goes, IsFronted, IsHeadFor, ReadsOn};
 ghost use Rattle.mr_shards.specs.Cursors.{with_waiting};
-ghost use Rattle.mr_shards.specs.Merged.{merged_parts, texts};
+ghost use Rattle.mr_shards.specs.Merged.{texts};
 ghost use Rattle.mr_shards.specs.Refused.{Blames, IsRest, TakesNot};
+ghost use Rattle.mr_shards.specs.Portions.{merged_portions};
 ghost use Rattle.mr_shards.specs.Outputs.{AreAtFirst, IsOutputOfAll, parts_in};
 
 use crate::cursor::{Cursor, advanced, next_line};
@@ -372,7 +373,7 @@ pub fn merge_parts(
     outputs: &[ShardText<'_>],
 ) -> Result<Vec<u8>, MergeFault>
     ensures stands { IfOk result (λ _. AllByRecursion (λ o. IsRest job.now None o.text.now) outputs.now) }
-    ensures merged { IfOk result (λ out. out.items ≡ texts job.now (merged_parts (parts_in job.now outputs.now))) }
+    ensures merged { IfOk result (λ out. out.items ≡ texts job.now (merged_portions (parts_in job.now outputs.now))) }
     ensures whole { IfOk result (λ out. IsOutputOfAll job.now outputs.now out.items) }
     ensures err { IfErr result (Blames job.now outputs.now) }
 {

@@ -3,7 +3,8 @@ ghost use Rattle.std.specs.Prelude.{◌≡◌, ℕ, ◌≤◌, ◌++◌, ◌∷�
 ghost use Rattle.std.specs.Prelude.{map, option_map, List, Option, Some, None};
 ghost use Rattle.std.specs.Prelude.{replicate, MatchOption, false, true, take, slice_index_or};
 ghost use Rattle.mr_shards.specs.Pieces.{AreBlamed, AreLines, ArePut, AreWithin, BlamesAll};
-ghost use Rattle.mr_shards.specs.Pieces.{EndsLine, all_read_on};
+ghost use Rattle.mr_shards.specs.Lines.{EndsLine};
+ghost use Rattle.mr_shards.specs.Pieces.{all_read_on};
 ghost use Rattle.mr_shards.specs.Pieces.{cuts_before, fresh, nothing, numbered, pieces_of, read_on};
 ghost use Rattle.mr_shards.specs.Pieces.{told, whole_window};
 ghost use Rattle.mr_shards.specs.Places.{shown};

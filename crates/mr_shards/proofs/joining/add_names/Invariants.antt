@@ -1,6 +1,6 @@
 use Rattle.std.proofs.Common.{◌≡◌, ◌<◌, ◌^◌, ◌++◌, map, take}
 use Rattle.std.specs.List.{AllByRecursion}
-use Rattle.mr_shards.specs.Shards.{moved_name}
+use Rattle.mr_shards.specs.Spots.{moved_name}
 use Rattle.mr_shards.proofs.joining.add_names.Given as goal
 
 abbrev pub invariant-loop-name : goal.invariant-loop-name

@@ -13,7 +13,7 @@ use Rattle.mr_shards.proofs.StepLemmas.{behind-step, best-of, IsLeast, IsBest, s
 use Rattle.mr_shards.proofs.LoopLemmas.{kept-first, kept-step, kept-end, least-within}
 use Rattle.mr_shards.proofs.RefusedLemmas.{blames-left, blames-taken, handed, read-step}
 use Rattle.mr_shards.proofs.TotalLemmas.{too-large}
-use Rattle.mr_shards.proofs.WholeLaws.{output-of_all}
+use Rattle.mr_shards.proofs.LineLaws.{output-of_all}
 use Rattle.mr_shards.proofs.merger.merge_lines.Goals as goal
 
 -- the least of the cursors is the least of those that the vector holds
@@ -75,7 +75,7 @@ returns-clause-ok c = λ os f.
     let e = kept-end job os c.loop-at.cursors.items c.loop-at.waiting c.loop-at.out.items
     (ends c.loop-at.cursors.items c.deref.result.now c.deref.ensures.value c.in_default.ensures) (c.loop-at.invariant.kept os f) in
     let text = c.in_ok-put_last.ensures ∙ e.text in
-    record { stands = e.stands; text_is = text; whole = output-of_all job os c.put_last.new.out.items e.stands text })
+    record { stands = e.stands; text_is = text; whole = output-of_all job os c.put_last.new.out.items text })
 
 pub returns-in_err-go_on-clause-err : goal.returns-in_err-go_on-clause-err
 returns-in_err-go_on-clause-err c =

@@ -2,13 +2,14 @@ use Rattle.std.proofs.Common.{inl, ap, length, ◌∙◌, ◌≡◌, ◌++◌, [
 use Rattle.std.specs.List.{AllByRecursion}
 use Rattle.mr_shards.specs.declared.cursor.Cursor.{Cursor}
 use Rattle.mr_shards.specs.Cursors.{IsHeadFor, left}
-use Rattle.mr_shards.specs.Outputs.{AreOpened, moved_parts, parts_in}
+use Rattle.mr_shards.specs.Outputs.{AreOpened, parts_in}
 use Rattle.mr_shards.proofs.StepLemmas.{all-append}
 use Rattle.mr_shards.proofs.LoopLemmas.{opened-more, lefts-more}
 use Rattle.std.proofs.lemmas.List.{length_push}
 use Rattle.mr_shards.specs.Refused.{AreRead}
 use Rattle.mr_shards.proofs.RefusedLemmas.{blamed, blames-opening, files-next, files-over, read-push}
 use Rattle.std.proofs.lemmas.Result.{err_from_is_err_and}
+use Rattle.mr_shards.specs.Portions.{no_shift, past_files, shifted_parts}
 use Rattle.mr_shards.proofs.merger.open_all.Goals as goal
 
 pub loop-shard-preserved : goal.loop-shard-preserved
@@ -22,8 +23,8 @@ loop-shard-preserved c =
     let opened : AreOpened job (old ++ one ∷ []) (take (i + 1) os) =
     opened-more job old os i _ one c.loop-shard-test.true c.loop-shard.invariant.opened
     (λ s. c.in_ok-advanced.ensures.behind s.rest) in
-    let lefts : map (left job) (old ++ one ∷ []) ++ moved_parts c.in-Some.files (parts_in job (drop (i + 1) os)) ≡ moved_parts 0 (parts_in job os) =
-    lefts-more job old os i c.loop-shard.before c.in-Some.files _ one (moved_parts 0 (parts_in job os)) c.loop-shard-test.true c.loop-shard.invariant.lefts c.in_ok-advanced.ensures.left (c.in-Some.ensures).1 in
+    let lefts : map (left job) (old ++ one ∷ []) ++ shifted_parts (past_files c.in-Some.files) (parts_in job (drop (i + 1) os)) ≡ shifted_parts no_shift (parts_in job os) =
+    lefts-more job old os i c.loop-shard.before c.in-Some.files _ one (shifted_parts no_shift (parts_in job os)) c.loop-shard-test.true c.loop-shard.invariant.lefts c.in_ok-advanced.ensures.left (c.in-Some.ensures).1 in
     record {
       kinds = subst (AllByRecursion (IsHeadFor job)) (sym e) (all-append (IsHeadFor job) old (one ∷ []) c.loop-shard.invariant.kinds (c.in_ok-advanced.ensures.kind, tt));
       opened = subst (λ (cs : List Cursor). AreOpened job cs (take (i + 1) os)) (sym e) opened;
@@ -32,7 +33,7 @@ loop-shard-preserved c =
           (read-push job old os i _ one c.loop-shard.invariant.counted c.loop-shard-test.true c.loop-shard.invariant.read c.in_ok-advanced.ensures.read
           (c.in_ok-advanced.ensures.before ∙ c.loop-shard.invariant.behind));
       behind = files-next os i _ c.loop-shard.before c.in-Some.files c.loop-shard-test.true c.loop-shard.invariant.behind (c.in-Some.ensures).1;
-      lefts = subst (λ (cs : List Cursor). map (left job) cs ++ moved_parts c.in-Some.files (parts_in job (drop (i + 1) os)) ≡ moved_parts 0 (parts_in job os)) (sym e) lefts;
+      lefts = subst (λ (cs : List Cursor). map (left job) cs ++ shifted_parts (past_files c.in-Some.files) (parts_in job (drop (i + 1) os)) ≡ shifted_parts no_shift (parts_in job os)) (sym e) lefts;
     }
 
 pub returns-in_err-advanced-clause-err : goal.returns-in_err-advanced-clause-err

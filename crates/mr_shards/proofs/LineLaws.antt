@@ -1,0 +1,273 @@
+-- The lines of the portions' outputs, merged, are the output of the whole.
+use Rattle.std.proofs.Common.{◌≡◌, ℕ, ◌<◌, ◌^◌, Bool, List, [], ◌∷◌, ◌++◌, length, map, replicate, refl, sym, ◌∙◌, ap, subst, arith, inl, inr}
+use Rattle.std.specs.Prelude.{decimal}
+use Rattle.std.proofs.lemmas.List.{append_assoc}
+use Rattle.std.specs.Int.{IsInRange}
+use Rattle.std.specs.List.{AllByRecursion, flat_map}
+use Rattle.mr_bytes.specs.declared.Value.{Value}
+use Rattle.mr_bytes.specs.declared.Value.TheVariants.{One, At}
+use Rattle.mr_bytes.specs.Cut.{Lacks}
+use Rattle.mr_bytes.specs.Lists.{Has, Rises}
+use Rattle.mr_bytes.specs.Order.{key_order}
+use Rattle.mr_bytes.proofs.ListLaws.{Has-all, Has-flat_map_from, all_from_Has}
+use Rattle.mr_shards.specs.declared.merger.ShardText.{ShardText}
+use Rattle.mr_jobs.specs.JobSpec.{JobSpec, RequestSpec, WordCount, LinesWith, Resources, InvertedIndex}
+use Rattle.mr_reduce.specs.Text.{comma_separated, file_in, files_line, files_of}
+use Rattle.mr_reduce.proofs.FileLemmas.{comma}
+use Rattle.mr_sequential.specs.Sequential.{sequential}
+use Rattle.mr_shards.specs.Lines.{HasLine, after_last, before_last, group_in, groups_in, numbers_in, places_in}
+use Rattle.mr_shards.specs.Merged.{Group, merged, texts, with_group}
+use Rattle.mr_shards.proofs.MergedLaws.{keys, merged-rise}
+use Rattle.mr_shards.proofs.MergeLemmas.{with_group-joined}
+use Rattle.mr_shards.proofs.PairLemmas.{IsCounted}
+use Rattle.mr_shards.proofs.ReadingLemmas.{Lacks-append, after-last, before-last, decimal-lacks, lines-next, lines-none, one_reading}
+use Rattle.mr_shards.proofs.WholeLaws.{IsFineGroup, all-texts, groups-fine, merged-append, one-each}
+use Rattle.mr_shards.specs.Portions.{AreCutAtLines, Part, Portion, Shift, last_file, merged_portions, part_of, past_files, shift_behind, shift_of, shifted_group}
+use Rattle.mr_shards.specs.PortionLines.{LinesAreWhole, part_read}
+use Rattle.mr_shards.proofs.AlikeLemmas.{AreAlike, AreLikeParts, alike-portions, alike-texts, places-alike}
+use Rattle.mr_shards.proofs.FileNumberLemmas.{numbers_read, sorted-in, told-in}
+use Rattle.mr_shards.proofs.PortionLaws.{merged_is_whole, outputs_are_texts}
+use Rattle.mr_shards.specs.Outputs.{AreOutputsOf, IsJudged, IsOutputOfAll, parts_in}
+use Rattle.mr_shards.proofs.ShiftLemmas.{shifted-rise}
+
+-- ---- the groups that the lines of groups tell
+
+abbrev files_read : Group → Group
+files_read g = record { key = g.key; values = places_in (files_of g.values) }
+
+abbrev read_groups : JobSpec → List Group → List Group
+read_groups (WordCount keep_case) gs = gs
+read_groups (LinesWith literal fold) gs = flat_map (λ (g : Group). one-each g.key g.values) gs
+read_groups Resources gs = gs
+read_groups (InvertedIndex keep_case) gs = map files_read gs
+
+ones : (vs : List Value) → AllByRecursion (λ v. v ≡ One) vs → vs ≡ replicate (length vs) One
+ones [] all = refl
+ones (v ∷ vs) all = let here = all.0 in let rest = ones vs all.1 in λ i. here i ∷ rest i
+
+word-lines : (keep_case : Bool) (gs : List Group) → AllByRecursion (IsFineGroup (WordCount keep_case)) gs → AllByRecursion (HasLine (WordCount keep_case)) gs
+word-lines keep_case [] all = tt
+word-lines keep_case (g ∷ gs) all = ((all.0.clear, all.0.few, ones g.values all.0.values), word-lines keep_case gs all.1)
+
+url-lines : (gs : List Group) → AllByRecursion (IsFineGroup Resources) gs → AllByRecursion (HasLine Resources) gs
+url-lines [] all = tt
+url-lines (g ∷ gs) all = ((all.0.clear, all.0.few, ones g.values all.0.values), url-lines gs all.1)
+
+each-line : (literal : List ℕ) (fold : Bool) (k : List ℕ) (vs : List Value) → Lacks 10 k → AllByRecursion (IsCounted (LinesWith literal fold)) vs
+    → AllByRecursion (HasLine (LinesWith literal fold)) (one-each k vs)
+unfolding one-each
+each-line literal fold k [] clear all = tt
+each-line literal fold k (v ∷ vs) clear all =
+    let w = all.0 in ((clear, (w.0, w.1, w.2, w.3, ap (λ (u : Value). u ∷ []) w.4)), each-line literal fold k vs clear all.1)
+
+all-append : {X : Type 0} (P : X → Type 0) (xs ys : List X) → AllByRecursion P xs → AllByRecursion P ys → AllByRecursion P (xs ++ ys)
+all-append P [] ys a b = b
+all-append P (x ∷ xs) ys a b = (a.0, all-append P xs ys a.1 b)
+
+place-lines : (literal : List ℕ) (fold : Bool) (gs : List Group) → AllByRecursion (IsFineGroup (LinesWith literal fold)) gs
+    → AllByRecursion (HasLine (LinesWith literal fold)) (flat_map (λ (g : Group). one-each g.key g.values) gs)
+place-lines literal fold [] all = tt
+place-lines literal fold (g ∷ gs) all =
+    all-append (HasLine (LinesWith literal fold)) (one-each g.key g.values) (flat_map (λ (h : Group). one-each h.key h.values) gs)
+    (each-line literal fold g.key g.values all.0.clear all.0.values) (place-lines literal fold gs all.1)
+
+-- ---- lines of an index
+
+lf_other : IsInRange 48 57 10 → ⊥
+lf_other h = omega (arith, h.0)
+
+tab_other : IsInRange 48 57 9 → ⊥
+tab_other h = omega (arith, h.0)
+
+commas-lack : (b : ℕ) (ns : List ℕ) → (IsInRange 48 57 b → ⊥) → (44 ≡ b → ⊥) → AllByRecursion (λ n. n < 2 ^ 64) ns → Lacks b (flat_map comma ns)
+commas-lack b [] other ne small = tt
+commas-lack b (n ∷ ns) other ne small =
+    (ne, Lacks-append b (decimal n) (flat_map comma ns) (decimal-lacks b n other small.0) (commas-lack b ns other ne small.1))
+
+separated-lack : (b n : ℕ) (ns : List ℕ) → (IsInRange 48 57 b → ⊥) → (44 ≡ b → ⊥) → AllByRecursion (λ m. m < 2 ^ 64) (n ∷ ns) → Lacks b (comma_separated (n ∷ ns))
+separated-lack b n ns other ne small = Lacks-append b (decimal n) (flat_map comma ns) (decimal-lacks b n other small.0) (commas-lack b ns other ne small.1)
+
+line-text : (key told rest : List ℕ) → (key ++ 9 ∷ (told ++ 10 ∷ [])) ++ rest ≡ (key ++ 9 ∷ told) ++ 10 ∷ rest
+line-text key told rest =
+    append_assoc key (9 ∷ (told ++ 10 ∷ [])) rest ∙ ap (λ l. key ++ 9 ∷ l) (append_assoc told (10 ∷ []) rest) ∙ sym (append_assoc key (9 ∷ told) (10 ∷ rest))
+
+index-line : (keep_case : Bool) (key : List ℕ) (n : ℕ) (ns rest : List ℕ) → Lacks 10 key → AllByRecursion (λ m. m < 2 ^ 64) (n ∷ ns)
+    → groups_in (InvertedIndex keep_case) (files_line key (n ∷ ns) ++ rest) ≡ record { key = key; values = places_in (n ∷ ns) } ∷ groups_in (InvertedIndex keep_case) rest
+index-line keep_case key n ns rest clear small =
+    let job : JobSpec = InvertedIndex keep_case in
+    let told : List ℕ = comma_separated (n ∷ ns) in
+    let no_lf : Lacks 10 told = separated-lack 10 n ns lf_other (λ e. omega (arith, e)) small in
+    let no_tab : Lacks 9 told = separated-lack 9 n ns tab_other (λ e. omega (arith, e)) small in
+    let line : List ℕ = key ++ 9 ∷ told in
+    let first : before_last 9 line ≡ key = before-last 9 key told no_tab in
+    let second : places_in (numbers_in (after_last 9 line)) ≡ places_in (n ∷ ns) =
+    ap (λ l. places_in (numbers_in l)) (after-last 9 key told no_tab) ∙ ap places_in (numbers_read n ns small) in
+    ap (groups_in job) (line-text key told rest)
+    ∙ ap (map (group_in job)) (lines-next line rest (Lacks-append 10 key (9 ∷ told) clear (λ e. omega (arith, e), no_lf)))
+    ∙ (λ i. record { key = first i; values = second i } ∷ groups_in job rest)
+
+has-some : (xs : List ℕ) (x : ℕ) → Has xs x → (n : ℕ) × (ns : List ℕ) × (xs ≡ n ∷ ns)
+has-some [] x h = absurd h
+has-some (n ∷ ns) x h = (n, ns, refl)
+
+files-some : (keep_case : Bool) (vs : List Value) → 0 < length vs → AllByRecursion (IsCounted (InvertedIndex keep_case)) vs → (n : ℕ) × (ns : List ℕ) × (files_of vs ≡ n ∷ ns)
+files-some keep_case [] some all = absurd (omega (arith, some))
+files-some keep_case (v ∷ vs) some all =
+    let w = all.0 in
+    has-some (files_of (v ∷ vs)) w.0 (sorted-in (v ∷ vs) w.0 (subst (λ u. Has (flat_map file_in (u ∷ vs)) w.0) (sym w.4) (inl refl)))
+
+files-small : (keep_case : Bool) (vs : List Value) → AllByRecursion (IsCounted (InvertedIndex keep_case)) vs → AllByRecursion (λ f. f < 2 ^ 64) (files_of vs)
+files-small keep_case vs all =
+    all_from_Has (λ f. f < 2 ^ 64) (files_of vs)
+    (λ f h. (let t = Has-flat_map_from file_in vs f (told-in vs f h) in
+    let w = Has-all (IsCounted (InvertedIndex keep_case)) vs t.0 all t.1 in
+    one f w.0 w.1 w.2 (subst (λ u. Has (file_in u) f) w.4 t.2)))
+  where
+    one : (f file offset : ℕ) → file < 2 ^ 64 → Has (file_in (At file offset)) f → f < 2 ^ 64
+    one f file offset small (inl e) = subst (λ k. k < 2 ^ 64) e small
+    one f file offset small (inr none) = absurd none
+
+index-read : (keep_case : Bool) (gs : List Group) → AllByRecursion (IsFineGroup (InvertedIndex keep_case)) gs
+    → groups_in (InvertedIndex keep_case) (texts (InvertedIndex keep_case) gs) ≡ map files_read gs
+index-read keep_case [] all = ap (map (group_in (InvertedIndex keep_case))) lines-none
+index-read keep_case (g ∷ gs) all =
+    let job : JobSpec = InvertedIndex keep_case in
+    let some = files-some keep_case g.values all.0.some all.0.values in
+    let is : files_of g.values ≡ some.0 ∷ some.1 = some.2 in
+    let small : AllByRecursion (λ f. f < 2 ^ 64) (some.0 ∷ some.1) = subst (AllByRecursion (λ f. f < 2 ^ 64)) is (files-small keep_case g.values all.0.values) in
+    ap (λ fs. groups_in job (files_line g.key fs ++ texts job gs)) is
+    ∙ index-line keep_case g.key some.0 some.1 (texts job gs) all.0.clear small
+    ∙ ap (λ fs. record { key = g.key; values = places_in fs } ∷ groups_in job (texts job gs)) (sym is)
+    ∙ ap (λ l. files_read g ∷ l) (index-read keep_case gs all.1)
+
+-- ---- the text of groups is read as what their lines tell
+
+texts-read : (job : JobSpec) (gs : List Group) → AllByRecursion (IsFineGroup job) gs → groups_in job (texts job gs) ≡ read_groups job gs
+texts-read (WordCount keep_case) gs all = one_reading (WordCount keep_case) gs (word-lines keep_case gs all)
+texts-read (LinesWith literal fold) gs all =
+    let job : JobSpec = LinesWith literal fold in
+    ap (groups_in job) (sym (all-texts literal fold gs))
+    ∙ one_reading job (flat_map (λ (g : Group). one-each g.key g.values) gs) (place-lines literal fold gs all)
+texts-read Resources gs all = one_reading Resources gs (url-lines gs all)
+texts-read (InvertedIndex keep_case) gs all = index-read keep_case gs all
+
+-- ---- lines merge as their groups do
+
+merged-each : (k : List ℕ) (v : Value) (vs : List Value) (hs : List Group) → Rises key_order (keys hs)
+    → merged (one-each k (v ∷ vs)) hs ≡ with_group (record { key = k; values = v ∷ vs }) hs
+unfolding one-each
+merged-each k v [] hs rise = refl
+merged-each k v (w ∷ ws) hs rise =
+    ap (with_group (record { key = k; values = v ∷ [] })) (merged-each k w ws hs rise)
+    ∙ with_group-joined (record { key = k; values = v ∷ [] }) (record { key = k; values = w ∷ ws }) hs refl rise
+
+merged-group : (g : Group) (hs : List Group) → 0 < length g.values → Rises key_order (keys hs) → merged (one-each g.key g.values) hs ≡ with_group g hs
+merged-group g hs some rise = by g.values refl some
+  where
+    by : (vs : List Value) → g.values ≡ vs → 0 < length vs → merged (one-each g.key g.values) hs ≡ with_group g hs
+    by [] e h = absurd (omega (arith, h))
+    by (v ∷ vs) e h =
+        ap (λ (us : List Value). merged (one-each g.key us) hs) e ∙ merged-each g.key v vs hs rise
+        ∙ (λ i. with_group (record { key = g.key; values = sym e i }) hs)
+
+merged-places : (job : JobSpec) (gs hs : List Group) → AllByRecursion (IsFineGroup job) gs → Rises key_order (keys hs)
+    → merged (flat_map (λ (g : Group). one-each g.key g.values) gs) hs ≡ merged gs hs
+merged-places job [] hs all rise = refl
+merged-places job (g ∷ gs) hs all rise =
+    merged-append (one-each g.key g.values) (flat_map (λ (h : Group). one-each h.key h.values) gs) hs
+    ∙ ap (merged (one-each g.key g.values)) (merged-places job gs hs all.1 rise)
+    ∙ merged-group g (merged gs hs) all.0.some (merged-rise gs hs rise)
+
+-- a part with what its lines tell
+abbrev lines_part : JobSpec → Part → Part
+lines_part job a = record { shift = a.shift; groups = read_groups job a.groups }
+
+abbrev AreFine : JobSpec → Part → Type 0
+AreFine job a = AllByRecursion (IsFineGroup job) a.groups
+
+same-parts : (job : JobSpec) (parts : List Part) → ((gs : List Group) → read_groups job gs ≡ gs) → map (lines_part job) parts ≡ parts
+same-parts job [] same = refl
+same-parts job (a ∷ parts) same =
+    let here : read_groups job a.groups ≡ a.groups = same a.groups in
+    let rest = same-parts job parts same in
+    λ i. record { shift = a.shift; groups = here i } ∷ rest i
+
+places-whole : (literal : List ℕ) (fold : Bool) (parts : List Part) → AllByRecursion (AreFine (LinesWith literal fold)) parts
+    → merged_portions (map (lines_part (LinesWith literal fold)) parts) ≡ merged_portions parts
+places-whole literal fold [] fine = refl
+places-whole literal fold (a ∷ parts) fine =
+    let job : JobSpec = LinesWith literal fold in
+    let s : Shift = a.shift in
+    ap (λ gs. merged (read_groups job a.groups) (map (shifted_group s) gs)) (places-whole literal fold parts fine.1)
+    ∙ merged-places job a.groups (map (shifted_group s) (merged_portions parts)) fine.0
+    (shifted-rise s parts)
+
+files-alike : (gs : List Group) → AreAlike (map files_read gs) gs
+files-alike [] = tt
+files-alike (g ∷ gs) = (refl, places-alike g.values, files-alike gs)
+
+parts-alike : (keep_case : Bool) (parts : List Part) → AreLikeParts (map (lines_part (InvertedIndex keep_case)) parts) parts
+parts-alike keep_case [] = tt
+parts-alike keep_case (a ∷ parts) = (refl, files-alike a.groups, parts-alike keep_case parts)
+
+lines-merge : (job : JobSpec) (parts : List Part) → AllByRecursion (AreFine job) parts
+    → texts job (merged_portions (map (lines_part job) parts)) ≡ texts job (merged_portions parts)
+lines-merge (WordCount keep_case) parts fine = ap (λ ps. texts (WordCount keep_case) (merged_portions ps)) (same-parts (WordCount keep_case) parts (λ gs. refl))
+lines-merge (LinesWith literal fold) parts fine = ap (texts (LinesWith literal fold)) (places-whole literal fold parts fine)
+lines-merge Resources parts fine = ap (λ ps. texts Resources (merged_portions ps)) (same-parts Resources parts (λ gs. refl))
+lines-merge (InvertedIndex keep_case) parts fine =
+    alike-texts keep_case (merged_portions (map (lines_part (InvertedIndex keep_case)) parts)) (merged_portions parts)
+    (alike-portions (map (lines_part (InvertedIndex keep_case)) parts) parts (parts-alike keep_case parts))
+
+-- ---- all portions
+
+part-lines : (request : RequestSpec) (p : ℕ) (s : Portion) → 0 < request.split → IsJudged request s → part_read request p s ≡ lines_part request.job (part_of request p s)
+part-lines request p s some judged =
+    let job : JobSpec = request.job in
+    let gs : List Group = (part_of request p s).groups in
+    let here : groups_in job (sequential request s.files s.skips p) ≡ read_groups job gs =
+    ap (groups_in job) (outputs_are_texts request p s)
+    ∙ texts-read job gs (groups-fine request s p some judged) in
+    λ i. record { shift = shift_of s; groups = here i }
+
+parts-lines : (request : RequestSpec) (p : ℕ) (portions : List Portion) → 0 < request.split → AllByRecursion (IsJudged request) portions
+    → map (part_read request p) portions ≡ map (lines_part request.job) (map (part_of request p) portions)
+parts-lines request p [] some judged = refl
+parts-lines request p (s ∷ ss) some judged =
+    let here = part-lines request p s some judged.0 in let rest = parts-lines request p ss some judged.1 in λ i. here i ∷ rest i
+
+parts-fine : (request : RequestSpec) (p : ℕ) (portions : List Portion) → 0 < request.split → AllByRecursion (IsJudged request) portions
+    → AllByRecursion (AreFine request.job) (map (part_of request p) portions)
+parts-fine request p [] some judged = tt
+parts-fine request p (s ∷ ss) some judged =
+    (groups-fine request s p some judged.0, parts-fine request p ss some judged.1)
+
+pub lines_are_whole : LinesAreWhole
+lines_are_whole request portions p some cut judged =
+    ap (λ ps. texts request.job (merged_portions ps)) (parts-lines request p portions some judged)
+    ∙ lines-merge request.job (map (part_of request p) portions) (parts-fine request p portions some judged)
+    ∙ merged_is_whole request portions p some cut
+
+-- ---- outputs of shards, which are portions of whole files
+
+parts-are : (request : RequestSpec) (p : ℕ) (shards : List Portion) (os : List ShardText) → AreOutputsOf request p shards os
+    → parts_in request.job os ≡ map (part_read request p) shards
+parts-are request p [] [] outs = refl
+parts-are request p [] (o ∷ os) outs = absurd outs
+parts-are request p (s ∷ ss) [] outs = absurd outs
+parts-are request p (s ∷ ss) (o ∷ os) outs =
+    let shift : past_files o.files ≡ shift_of s = ap past_files outs.1 ∙ sym (ap (λ b. shift_behind b (length s.files) (length (last_file s.files))) outs.0) in
+    let groups = ap (groups_in request.job) outs.2 in
+    let rest = parts-are request p ss os outs.3 in
+    λ i. record { shift = shift i; groups = groups i } ∷ rest i
+
+never-cut : (request : RequestSpec) (p : ℕ) (shards : List Portion) (os : List ShardText) → AreOutputsOf request p shards os → AreCutAtLines shards
+never-cut request p [] os outs = tt
+never-cut request p (s ∷ ss) [] outs = absurd outs
+never-cut request p (s ∷ ss) (o ∷ os) outs = ((λ e. absurd (cc (sym e ∙ outs.0))), never-cut request p ss os outs.3)
+
+pub output-of_all : (job : JobSpec) (outputs : List ShardText) (text : List ℕ) → text ≡ texts job (merged_portions (parts_in job outputs)) → IsOutputOfAll job outputs text
+output-of_all job outputs text is request shards p same some judged outs =
+    is ∙ ap (λ (t : JobSpec). texts t (merged_portions (parts_in t outputs))) same
+    ∙ ap (λ ps. texts request.job (merged_portions ps)) (parts-are request p shards outputs outs)
+    ∙ lines_are_whole request shards p some (never-cut request p shards outputs outs) judged

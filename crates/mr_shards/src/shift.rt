@@ -1,0 +1,138 @@
+//! How far the places behind a portion move.
+//!
+//!     a.log  0 .. 900 more        the first portion: two files, the last one cut at 600
+//!     b.log  0 .. 600 more
+//!     b.log  600 .. 650 end       the second: its file 0 is file 1 of both, and byte 0 there is
+//!     c.log  0 .. 40  open        byte 600; its file 1 is file 2, with the same offsets
+//!
+//! File numbers move by the files before, where a file that is cut counts once. In the first file of
+//! a portion that goes on, offsets move by the bytes of the file before it. Lines of grep and spots
+//! of left-out records move alike. Cost: one pass over the ranges, from the last to the first.
+ghost use Rattle.std.specs.Prelude.{◌≡◌, ℕ, ◌+◌, ◌<◌, ◌≤◌, ◌==◌, ◌^◌, ◌⊎◌, MatchOption, true, false};
+ghost use Rattle.std.specs.Prelude.{if◌then◌else◌, length};
+ghost use Rattle.mr_shards.specs.RangeVerdicts.{end_of, last_goes_on, shift_past as do_shift_past};
+ghost use Rattle.mr_shards.specs.Portions.{shifted_start as moved_start};
+ghost use Rattle.mr_shards.specs.Spots.{shifted_spot};
+ghost use Rattle.mr_shards.specs.Gaps.{goes_on_at as is_going_on_at, note_at};
+
+use crate::ranges::{FileRange, goes_on, goes_on_at};
+use std::marker::Model;
+
+/// File numbers move by `files`, and offsets in file 0 by `bytes`.
+#[derive(Debug, Drop)]
+pub struct Shift {
+    pub files: u64,
+    pub bytes: u64,
+}
+
+impl Model for Shift {
+    ghost use Rattle.mr_shards.specs.Portions.{Shift as Distance};
+
+    ghost Value = { Distance };
+
+    ghost view = { λ s. record { files = s.files; bytes = s.bytes } };
+}
+
+/// Where a record begins: the number of its file, and the offset there.
+#[derive(Debug, Drop)]
+pub struct Spot {
+    pub file: u32,
+    pub start: u64,
+}
+
+impl Model for Spot {
+    ghost use Rattle.mr_shards.specs.Spots.{Spot as Beginning};
+
+    ghost Value = { Beginning };
+
+    ghost view = { λ s. record { file = s.file; start = s.start } };
+}
+
+/// The spot, moved; none if its file doesn't fit in 32 bits or its offset in 64.
+pub fn shifted(shift: &Shift, spot: &Spot) -> Option<Spot>
+    ensures { MatchOption result
+        ((2 ^ 32 ≤ (shifted_spot shift.now spot.now).file)
+        ⊎ (2 ^ 64 ≤ (shifted_spot shift.now spot.now).start))
+        (λ s. s ≡ shifted_spot shift.now spot.now) }
+{
+    let start = shifted_start(shift, spot.file, spot.start)?;
+    let file = shift.files.checked_add(spot.file as u64)?;
+    match u32::try_from(file) {
+        Ok(file) => Some(Spot { file, start }),
+        Err(_) => None,
+    }
+}
+
+fn shifted_start(shift: &Shift, file: u32, start: u64) -> Option<u64>
+    ensures { MatchOption result (2 ^ 64 ≤ moved_start shift.now file start)
+        (λ n. n ≡ moved_start shift.now file start) }
+{
+    if file == 0 {
+        return shift.bytes.checked_add(start);
+    }
+    Some(start)
+}
+
+/// The shift of what is behind the ranges.
+pub fn shift_past(ranges: &[FileRange], behind: &[FileRange]) -> Shift
+    ensures { result ≡ do_shift_past ranges.now behind.now }
+{
+    let mut at = ranges.len();
+    let mut files = 0;
+    let mut begin = 0;
+    while at > 0 {
+        at -= 1;
+        files = files_with(ranges, at, files);
+        begin = begin_with(ranges, at, files, begin);
+    }
+    match end_of_cut(ranges, behind) {
+        Some(end) => Shift {
+            files: files - 1,
+            bytes: end - begin,
+        },
+        None => Shift { files, bytes: 0 },
+    }
+}
+
+/// The files from that range on, if there are so many from the next one on.
+fn files_with(ranges: &[FileRange], at: usize, files: u64) -> u64
+    requires { files + at < length ranges.now }
+    ensures { result ≡ (if is_going_on_at ranges.now (at + 1) then files else files + 1) }
+{
+    if goes_on_at(ranges, at + 1) {
+        return files;
+    }
+    files + 1
+}
+
+/// Where the last file from that range on begins, if there are so many.
+fn begin_with(ranges: &[FileRange], at: usize, files: u64, begin: u64) -> u64
+    requires { at < length ranges.now }
+    ensures { result ≡ (if files == 1 then (note_at ranges.now at).from else begin) }
+{
+    let range = &ranges[at];
+    if files == 1 {
+        return range.from;
+    }
+    begin
+}
+
+/// Where the last range ends, if the first of the ranges behind goes on with it.
+fn end_of_cut(ranges: &[FileRange], behind: &[FileRange]) -> Option<u64>
+    ensures { MatchOption result (last_goes_on ranges.now behind.now ≡ false)
+        (λ end. (last_goes_on ranges.now behind.now ≡ true) × (end ≡ end_of ranges.now)) }
+{
+    let count = ranges.len();
+    if count == 0 {
+        return None;
+    }
+    let more = behind.len();
+    if more == 0 {
+        return None;
+    }
+    let first = &behind[0];
+    if goes_on(&ranges[count - 1], first) {
+        return Some(first.from);
+    }
+    None
+}
