@@ -98,7 +98,8 @@ fn take_value<'a>(bytes: &'a [u8]) -> Option<(Value, &'a [u8])>
 pub(crate) fn take_pair<'a>(bytes: &'a [u8]) -> Option<(RegionPair<'a>, &'a [u8])>
     ensures { MatchOption result ((t : Triple) (rest : List ℕ) → PairFits t
         → bytes.entry.now ≡ pair_bytes t ++ rest → ⊥)
-        (λ r. (bytes.entry.now ≡ pair_bytes (lent_pair (r.0)) ++ r.1.now) × PairFits (lent_pair (r.0))) }
+        (λ r. (bytes.entry.now ≡ pair_bytes (lent_pair (r.0)) ++ r.1.now)
+        × PairFits (lent_pair (r.0))) }
 {
     let (count, behind_count) = take_number(bytes)?;
     let (key, behind_key) = take_key(behind_count, count)?;

@@ -64,7 +64,8 @@ impl SealedRun {
 fn size_of(groups: &Groups, begin: usize, end: usize) -> Result<(u32, usize), AllocError>
     requires order { begin ≤ end }
     requires within { end ≤ length groups.now }
-    ensures { IfOk result (λ s. s.0 ≡ length (flat_map pairs_of (slice_range groups.now begin end))) }
+    ensures { IfOk result
+        (λ s. s.0 ≡ length (flat_map pairs_of (slice_range groups.now begin end))) }
 {
     let mut count = 0u32;
     let mut bytes = 20usize;

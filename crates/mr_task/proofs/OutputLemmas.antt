@@ -1,7 +1,8 @@
 -- What a reduce task gives: texts, counts and names of groups.
-use Rattle.std.proofs.Common.{◌≡◌, ℕ, zero, suc, ◌+◌, ◌<◌, ◌≤◌, Bool, true, false, cond, All, List, [], ◌∷◌, ◌++◌, length, get_or, take, drop, map, filter, refl, sym, ap, ◌∙◌, arith, length-append}
+use Rattle.std.proofs.Common.{◌≡◌, ℕ, zero, suc, ◌+◌, ◌<◌, ◌≤◌, Bool, All, List, [], ◌∷◌, ◌++◌, length, get_or, take, drop, map, refl, sym, ap, ◌∙◌, arith, length-append}
 use Rattle.std.proofs.lemmas.List.{append-nil, length-map, take_more}
 use Rattle.std.proofs.lemmas.List.Elements.{All-map}
+use Rattle.std.proofs.lemmas.List.Sums.{count_by-le-length, length-filter}
 use Rattle.std.proofs.Math.Seq.{drop-append_seam, take-append_seam}
 use Rattle.std.specs.Ordering.{match_ordering}
 use Rattle.std.specs.Str.{bytes_eq}
@@ -10,7 +11,7 @@ use Rattle.std.specs.declared.cmp.Ordering.TheVariants.{Less, Equal, Greater}
 use Rattle.mr_bytes.specs.Lists.{placed, sorted}
 use Rattle.mr_bytes.specs.Order.{key_order}
 use Rattle.mr_bytes.specs.Pairs.{Triple, pair_order}
-use Rattle.std.specs.List.{AllByRecursion, flat_map}
+use Rattle.std.specs.List.{flat_map}
 use Rattle.mr_bytes.specs.declared.Name.{Name}
 use Rattle.mr_bytes.specs.declared.Value.{Value}
 use Rattle.mr_certform.specs.Flat.{chunks, total}
@@ -27,10 +28,6 @@ use Rattle.mr_task.specs.Outputs.{flipped, with_other_bit}
 use Rattle.mr_task.specs.Values.{CanMerge, group_text}
 
 -- ---- counts with names
-
-pub some-more : (cs : List ℕ) (n : ℕ) → AllByRecursion (λ m. 1 ≤ m) cs → 1 ≤ n → AllByRecursion (λ m. 1 ≤ m) (cs ++ n ∷ [])
-some-more [] n all h = (h, tt)
-some-more (c ∷ cs) n all h = (all.0, some-more cs n all.1 h)
 
 -- the names of all groups, cut by how many pairs each has, are those of each
 pub chunks-counted : (gs : List Group)
@@ -79,20 +76,14 @@ sorted-length : {X : Type 0} (cmp : X → X → Ordering) (xs : List X) → leng
 sorted-length cmp [] = omega arith
 sorted-length cmp (x ∷ xs) = omega (arith, placed-length cmp x (sorted cmp xs), sorted-length cmp xs)
 
-filter-length : {X : Type 0} (p : X → Bool) (xs : List X) → length (filter p xs) ≤ length xs
-filter-length p [] = omega arith
-filter-length {X} p (x ∷ xs) = by (p x) (filter-length p xs)
-  where
-    by : (b : Bool) → length (filter p xs) ≤ length xs → length (cond b (x ∷ filter p xs) (filter p xs)) ≤ length (x ∷ xs)
-    by true h = omega (arith, h)
-    by false h = omega (arith, h)
-
 -- no group has more pairs than there are
 pub groups-few : (pairs : List Triple) (n : ℕ) → length pairs < n → All (λ (g : Group). length g.pairs < n) (merged pairs)
 groups-few pairs n h =
     let ts : List Triple = sorted pair_order pairs in
     All-map (λ (g : Group). length g.pairs < n) (group_of ts) (sorted key_order (map (λ (t : Triple). t.key) pairs))
-    (λ i d k. omega (arith, filter-length (λ (t : Triple). bytes_eq t.key (get_or (sorted key_order (map (λ (u : Triple). u.key) pairs)) i d)) ts, sorted-length pair_order pairs, h))
+    (λ i d k.
+    let own : Triple → Bool = λ t. bytes_eq t.key (get_or (sorted key_order (map (λ (u : Triple). u.key) pairs)) i d) in
+    omega (arith, length-filter own ts, count_by-le-length own ts, sorted-length pair_order pairs, h))
 
 -- ---- how many groups there are
 

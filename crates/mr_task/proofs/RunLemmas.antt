@@ -1,5 +1,5 @@
 -- Pairs taken run by run: one run more, one pair more, and the end.
-use Rattle.std.proofs.Common.{◌≡◌, ℕ, zero, suc, ◌+◌, ◌<◌, ◌≤◌, List, [], ◌∷◌, ◌++◌, length, get_or, map, take, drop, refl, sym, ap, ◌∙◌, subst, arith, append_assoc, inl, inr}
+use Rattle.std.proofs.Common.{◌≡◌, ℕ, ◌+◌, ◌<◌, ◌≤◌, List, [], ◌∷◌, ◌++◌, length, get_or, map, refl, sym, ap, ◌∙◌, subst, arith, append_assoc, inl, inr}
 use Rattle.std.proofs.lemmas.List.{append-nil, map-append}
 use Rattle.std.proofs.lemmas.List.FromFn.{get_or-map-range_with_len, length-map-range_with_len}
 use Rattle.std.specs.List.{range_with_len}
@@ -82,24 +82,7 @@ pub takes-more : (first then both : List Triple) (old mid new : Runs) → both �
 takes-more first then both old mid new e f g pairs h =
     subst (λ (l : List Triple). HasTaken l new) (append_assoc pairs first then ∙ ap (λ (l : List Triple). pairs ++ l) (sym e)) (g (pairs ++ first) (f pairs h))
 
--- ---- the next of a list
-
-pub next-left : {X : Type 0} (xs : List X) (i : ℕ) (x : X) (rest : List X) → drop i xs ≡ x ∷ rest → drop (i + 1) xs ≡ rest
-next-left [] zero x rest e = absurd (cc e)
-next-left [] (suc i) x rest e = absurd (cc e)
-next-left (y ∷ xs) zero x rest e = cc e
-next-left (y ∷ xs) (suc i) x rest e =
-    let same : suc i + 1 ≡ suc (i + 1) = omega arith in
-    ap (λ n. drop n (y ∷ xs)) same ∙ next-left xs i x rest e
-
-pub next-taken : {X : Type 0} (xs : List X) (i : ℕ) (x : X) (rest : List X) → drop i xs ≡ x ∷ rest → take (i + 1) xs ≡ take i xs ++ x ∷ []
-next-taken [] zero x rest e = absurd (cc e)
-next-taken [] (suc i) x rest e = absurd (cc e)
-next-taken (y ∷ xs) zero x rest e = let here : y ≡ x = cc e in ap (λ z. z ∷ []) here
-next-taken (y ∷ xs) (suc i) x rest e =
-    let same : suc i + 1 ≡ suc (i + 1) = omega arith in
-    ap (λ n. take n (y ∷ xs)) same ∙ ap (λ l. y ∷ l) (next-taken xs i x rest e)
-
+-- no more are left
 pub none-left : {X : Type 0} (xs : List X) → length xs ≤ 0 → xs ≡ []
 none-left [] h = refl
 none-left (x ∷ xs) h = absurd (omega (arith, h))

@@ -12,5 +12,5 @@ mod runs;
 pub use cancellation::{Cancellation, NeverCancelled};
 pub use map::{MapTask, map_task, map_task_with};
 pub use mr_merge::Reduction;
-pub use output::{GroupNames, MapOutput, Place, ReduceOutput, Stored};
+pub use output::{MapOutput, Place, ReduceOutput, Stored};
 pub use reduce::{TaskFault, map_values_law, pieces_law, reduce_pairs, reduce_task, worked_tasks};

@@ -77,7 +77,7 @@ pub fn map_task_with(
     };
     let count = plan.records_in(split);
     take_records(&records, 0, count, &NeverCancelled, &mut runs)?;
-    let (output, _) = runs.finish()?;
+    let output = runs.finish()?;
     Ok(output)
 }
 
@@ -181,15 +181,13 @@ impl<'a> MapTask<'a> {
             mut runs,
         } = self;
         let next = take_records(&records, next, 1, demand, &mut runs)?;
-        let (piece, runs) = runs.finish()?;
-        Ok((
-            piece,
-            MapTask {
-                records,
-                next,
-                runs,
-            },
-        ))
+        let piece = runs.finish()?;
+        let rest = MapTask {
+            records,
+            next,
+            runs,
+        };
+        Ok((piece, rest))
     }
 }
 

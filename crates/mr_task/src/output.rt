@@ -242,64 +242,6 @@ impl ReduceOutput {
     {
         (&self.counts, &self.names)
     }
-
-    /// The names of each group, one group after another.
-    pub fn groups(&self) -> GroupNames<'_>
-        ensures { result ≡ self.now.groups }
-    {
-        GroupNames {
-            counts: &self.counts,
-            names: &self.names,
-        }
-    }
-
-    /// The text, the number of names in each group, and the names of all groups in order.
-    pub fn into_parts(self) -> (Vec<u8>, Vec<u32>, Vec<Name>)
-        ensures text { result.0.items ≡ self.output }
-        ensures groups { chunks result.1.items result.2.items ≡ self.groups }
-        ensures some_entry { AllByRecursion (λ n. 1 ≤ n) result.1.items }
-        ensures entries { total result.1.items ≡ length result.2.items }
-    {
-        let ReduceOutput {
-            text,
-            counts,
-            names,
-        } = self;
-        (text, counts, names)
-    }
-}
-
-/// Iterates over the names of groups.
-#[derive(Drop)]
-pub struct GroupNames<'a> {
-    counts: &'a [u32],
-    names: &'a [Name],
-}
-
-impl<'a> Model for GroupNames<'a> {
-    ghost use Rattle.std.specs.Prelude.{◌≡◌, List, length};
-    ghost use Rattle.mr_bytes.specs.declared.Name.{Name as PairName};
-    ghost use Rattle.mr_certform.specs.Flat.{chunks, total};
-
-    ghost Value = { List (List PairName) };
-
-    ghost view = { λ g. chunks g.counts.now g.names.now };
-
-    ghost invariant = { λ g. total g.counts.now ≡ length g.names.now };
-}
-
-impl<'a> GroupNames<'a> {
-    /// The names of the next group, or `None` at the end and from then on.
-    pub fn next(&mut self) -> Option<&'a [Name]>
-        ensures { MatchOption result ((self.old ≡ []) × (self.new ≡ []))
-            (λ names. self.old ≡ names.now ∷ self.new) }
-    {
-        let (count, later) = self.counts.split_first()?;
-        let (names, rest) = self.names.split_at(*count as usize);
-        self.counts = later;
-        self.names = rest;
-        Some(names)
-    }
 }
 
 /// The place of a region: which worker stored it, and under which number.

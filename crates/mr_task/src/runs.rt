@@ -18,6 +18,7 @@ use mr_jobs::Mapper;
 use mr_spill::{Buffer, PushKeyFault};
 use mr_splits::RecordAt;
 use std::alloc::{AllocError, Global};
+use std::mem;
 
 pub(crate) fn in_order(alloc: Global, numbers: &[u32]) -> Result<Vec<u32>, AllocError>
     ensures rise { IfOk result (λ v. IsNonDecreasing v.items) }
@@ -161,34 +162,18 @@ impl Runs {
         Ok(())
     }
 
-    /// All runs, the rest as the last of them, and an empty `Runs` with the same buffer.
-    pub fn finish(mut self) -> Result<(MapOutput, Runs), AllocError>
-        requires some { 0 < self.sealed.parts }
-        requires own { AreOf self.split self.buffer.pairs }
-        ensures all { IfOk result (λ r. (pairs : List Triple) → HasTaken pairs self
-            → IsMapped (part_in self) self.sealed.parts pairs r.0) }
-        ensures none { IfOk result (λ r. HasTaken [] r.1) }
-        ensures waiting { IfOk result (λ r. r.1.buffer.pairs ≡ []) }
-        ensures alike { IfOk result (λ r. AreAlike self r.1) }
+    /// Takes out all runs, the rest as the last of them. The buffer keeps its memory.
+    pub fn finish(&mut self) -> Result<MapOutput, AllocError>
+        requires some { 0 < self.old.sealed.parts }
+        requires own { AreOf self.old.split self.old.buffer.pairs }
+        ensures all { IfOk result (λ o. (pairs : List Triple) → HasTaken pairs self.old
+            → IsMapped (part_in self.old) self.old.sealed.parts pairs o) }
+        ensures none { OnOk result (HasTaken [] self.new) }
+        ensures waiting { OnOk result (self.new.buffer.pairs ≡ []) }
+        ensures alike { OnOk result (AreAlike self.old self.new) }
     {
         self.seal_rest()?;
-        let parts = self.sealed.parts();
-        let Runs {
-            alloc,
-            split,
-            by,
-            sealed,
-            limit,
-            buffer,
-        } = self;
-        let rest = Runs {
-            alloc,
-            split,
-            by,
-            sealed: MapOutput::new(alloc, parts),
-            limit,
-            buffer,
-        };
-        Ok((sealed, rest))
+        let empty = MapOutput::new(self.alloc, self.sealed.parts());
+        Ok(mem::replace(&mut self.sealed, empty))
     }
 }

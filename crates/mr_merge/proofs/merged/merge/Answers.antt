@@ -6,7 +6,7 @@ use Rattle.std.specs.List.{AllByRecursion}
 use Rattle.mr_bytes.specs.Lists.{Rises}
 use Rattle.mr_bytes.specs.Pairs.{Triple, pair_order}
 use Rattle.mr_group.proofs.ListLemmas.{All-more}
-use Rattle.mr_merge.specs.Merged.{AreSound, NamesDiffer, joined, merged, values_of}
+use Rattle.mr_merge.specs.Merged.{NamesDiffer, joined, merged, values_of}
 use Rattle.mr_merge.proofs.GatherLemmas.{All-at}
 use Rattle.mr_merge.proofs.merged.merge.Goals as goal
 

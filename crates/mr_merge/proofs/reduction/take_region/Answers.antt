@@ -1,4 +1,4 @@
-use Rattle.std.proofs.Common.{◌≡◌, ◌&&◌, Bool, [], ap, sym, ◌∙◌, subst, true}
+use Rattle.std.proofs.Common.{◌&&◌, Bool, [], ap, sym, ◌∙◌, subst, true}
 use Rattle.mr_spill.specs.declared.cursor.RegionCursor.{RegionCursor}
 use Rattle.mr_spill.specs.Cursor.{AreAhead}
 use Rattle.mr_merge.proofs.TakingLemmas.{IsNamed, named-end, named-more, named-start}

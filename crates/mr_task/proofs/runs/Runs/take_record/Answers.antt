@@ -1,5 +1,6 @@
 use Rattle.std.proofs.Common.{◌≡◌, ℕ, ◌+◌, List, [], ◌∷◌, ◌++◌, length, take, drop, refl, subst, sym, ap, ◌∙◌, arith}
-use Rattle.std.proofs.lemmas.List.{append-nil, take-append-drop}
+use Rattle.std.proofs.lemmas.List.{append-nil, take-append-drop, take_more}
+use Rattle.mr_group.proofs.ListLemmas.{head-of_drop}
 use Rattle.mr_bytes.specs.declared.RecordName.{RecordName}
 use Rattle.mr_bytes.specs.declared.Value.{Value}
 use Rattle.mr_bytes.specs.Lists.{Rises}
@@ -10,7 +11,7 @@ use Rattle.mr_jobs.proofs.CountLemmas.{few_emissions}
 use Rattle.mr_sequential.specs.Emitted.{placed_from}
 use Rattle.mr_spill.specs.Column.{names_of}
 use Rattle.mr_task.specs.Runs.{Takes}
-use Rattle.mr_task.proofs.RunLemmas.{alike-then, later-rise, next-left, next-rises, next-taken, takes-more, takes-none}
+use Rattle.mr_task.proofs.RunLemmas.{alike-then, later-rise, next-rises, takes-more, takes-none}
 use Rattle.mr_task.proofs.runs.Runs.take_record.Goals as goal
 
 abbrev placed : RecordName → ℕ → List ℕ → Value → Triple
@@ -68,7 +69,8 @@ loop-key-preserved c =
     let t : Triple = placed c.args.number place c.in-Some.key.now c.in-Some.value in
     let rest : List Triple = placed_from c.args.number (place + 1) c.next.new.self in
     let is = left c.args.number place ts c.loop-key.emitter c.next.new.self c.in-Some.key.now c.in-Some.value c.loop-key.invariant.left c.in-Some.ensures.next in
-    let later : drop (place + 1) ts ≡ rest = next-left ts place t rest is in
+    let next = head-of_drop place ts rest t t is in
+    let later : drop (place + 1) ts ≡ rest = next.2 in
     record {
       alike = alike-then c.args.self.now c.loop-key.self c.push.new.self c.loop-key.invariant.alike c.in_ok-push.ensures.alike;
       own = c.in_ok-push.ensures.own;
@@ -78,7 +80,7 @@ loop-key-preserved c =
           (later-rise waiting c.push.new.self.buffer.pairs t rest c.in_ok-push.ensures.waiting
           (subst (λ (l : List Triple). Rises name_order (names_of (waiting ++ l))) is c.loop-key.invariant.rise));
       taken = takes-more (take place ts) (t ∷ []) (take (place + 1) ts) c.args.self.now c.loop-key.self c.push.new.self
-          (next-taken ts place t rest is) c.loop-key.invariant.taken c.in_ok-push.ensures.taken;
+          (take_more ts place t next.0 ∙ ap (λ (u : Triple). take place ts ++ u ∷ []) next.1) c.loop-key.invariant.taken c.in_ok-push.ensures.taken;
     }
 
 pub returns-clause-taken : goal.returns-clause-taken
