@@ -1,17 +1,16 @@
--- Committed outputs put together: counts and lists one behind another, and what a done job has committed.
-use Rattle.std.proofs.Common.{◌≡◌, ℕ, zero, suc, ◌+◌, ◌<◌, ◌≤◌, Option, Some, None, List, [], ◌∷◌, ◌++◌, length, map, take, drop, slice_get, get_or, refl, ap, sym, ◌∙◌, subst, append_assoc, append-nil, arith, true, is_some}
+-- Committed outputs put together, and what a done job has committed.
+use Rattle.std.proofs.Common.{◌≡◌, ℕ, zero, suc, ◌+◌, ◌<◌, ◌≤◌, Option, Some, None, List, [], ◌∷◌, ◌++◌, length, map, take, slice_get, get_or, refl, ap, sym, ◌∙◌, subst, append_assoc, append-nil, arith, true, is_some}
 use Rattle.std.specs.Prelude.{slice_index_or}
 use Rattle.std.specs.List.{AllByRecursion, list_all, sum_by}
 use Rattle.std.proofs.lemmas.List.Sums.{sum_by-cons}
 use Rattle.mr_core.specs.Promises.{FewAreLeftOut}
 use Rattle.std.specs.Option.{option_map_or, unwrap_or}
 use Rattle.std.proofs.lemmas.Bool.{false≢true}
-use Rattle.std.proofs.lemmas.List.{take_more, take_all, length-append, length-drop, length-map, length-take, map-append, take-append-le, drop-append-le}
+use Rattle.std.proofs.lemmas.List.{take_more, length-append, length-map, length-take, map-append}
 use Rattle.mr_bytes.specs.declared.Name.{Name}
 use Rattle.mr_bytes.specs.declared.RecordName.{RecordName}
 use Rattle.mr_certform.specs.declared.version.Version.{Version}
 use Rattle.mr_certform.specs.declared.version.Version.TheVariants.{V1}
-use Rattle.mr_certform.specs.Flat.{AreCounted, chunks, total}
 use Rattle.mr_certform.specs.Value.{CanSpell}
 use Rattle.mr_certform.proofs.Spelled.{whole_groups}
 use Rattle.mr_task.specs.Values.{Reduced}
@@ -24,51 +23,12 @@ use Rattle.mr_core.specs.Master.{State, Run, opening}
 use Rattle.mr_core.specs.Looks.{committed_of, part_output, set_of, split_set}
 use Rattle.mr_core.proofs.Progress.{Going, run_going, going_at_opening}
 use Rattle.mr_book.specs.Assembled.{committed_values, in_split, nothing, records_from}
-use Rattle.mr_book.specs.Assembling.{Gathering, gathering_of, reduced_under, sets_of}
+use Rattle.mr_book.specs.Assembling.{reduced_under, sets_of}
 use Rattle.mr_book.specs.Stored.{stored_at}
-
--- ---- counts
-
-total-append : (cs ds : List ℕ) → total (cs ++ ds) ≡ total cs + total ds
-total-append [] ds = omega arith
-total-append (c ∷ cs) ds = omega (arith, total-append cs ds)
-
-length-chunks : {X : Type 0} (cs : List ℕ) (xs : List X) → length (chunks cs xs) ≡ length cs
-length-chunks [] xs = refl
-length-chunks (c ∷ cs) xs = ap suc (length-chunks cs (drop c xs))
 
 All-append : {X : Type 0} (P : X → Type 0) (xs ys : List X) → AllByRecursion P xs → AllByRecursion P ys → AllByRecursion P (xs ++ ys)
 All-append P [] ys a b = b
 All-append P (x ∷ xs) ys a b = (a.0, All-append P xs ys a.1 b)
-
-chunks-append : {X : Type 0} (cs ds : List ℕ) (xs ys : List X) → total cs ≡ length xs → chunks (cs ++ ds) (xs ++ ys) ≡ chunks cs xs ++ chunks ds ys
-chunks-append [] ds [] ys e = refl
-chunks-append [] ds (x ∷ xs) ys e = absurd (omega arith)
-chunks-append {X} (c ∷ cs) ds xs ys e =
-    let within : c ≤ length xs = omega arith in
-    let front : take c (xs ++ ys) ≡ take c xs = take-append-le c xs ys within in
-    let behind : drop c (xs ++ ys) ≡ drop c xs ++ ys = drop-append-le c xs ys within in
-    let left : total cs ≡ length (drop c xs) = omega (arith, length-drop c xs) in
-    let rest : chunks (cs ++ ds) (drop c (xs ++ ys)) ≡ chunks cs (drop c xs) ++ chunks ds ys = ap (chunks (cs ++ ds)) behind ∙ chunks-append cs ds (drop c xs) ys left in
-    λ i. front i ∷ rest i
-
--- one partition more
-pub groups_more : {X : Type 0} (gc ec es : List ℕ) (ns ms : List X) (n : ℕ) → total gc ≡ length ec → total ec ≡ length ns → n ≡ length es
-    → chunks (gc ++ n ∷ []) (chunks (ec ++ es) (ns ++ ms)) ≡ chunks gc (chunks ec ns) ++ chunks es ms ∷ []
-groups_more {X} gc ec es ns ms n groups entries count =
-    let all : total gc ≡ length (chunks ec ns) = groups ∙ sym (length-chunks ec ns) in
-    let last : take n (chunks es ms) ≡ chunks es ms = take_all n (chunks es ms) (omega (arith, length-chunks es ms)) in
-    ap (chunks (gc ++ n ∷ [])) (chunks-append ec es ns ms entries)
-    ∙ chunks-append gc (n ∷ []) (chunks ec ns) (chunks es ms) all
-    ∙ ap (λ gs. chunks gc (chunks ec ns) ++ gs ∷ []) last
-
-pub counted_more : (gc ec es : List ℕ) (ns ms : List Rattle.mr_bytes.specs.declared.Name.Name) (n : ℕ) → AreCounted gc ec ns → AllByRecursion (λ n. 1 ≤ n) es → total es ≡ length ms → n ≡ length es
-    → AreCounted (gc ++ n ∷ []) (ec ++ es) (ns ++ ms)
-counted_more gc ec es ns ms n was some total_is count = record {
-  some_entry = All-append (λ n. 1 ≤ n) ec es was.some_entry some;
-  groups = omega (arith, total-append gc (n ∷ []), was.groups, length-append ec es, count);
-  entries = omega (arith, total-append ec es, was.entries, length-append ns ms, total_is);
-}
 
 -- ---- left-out sets
 
@@ -136,15 +96,6 @@ pub commit_is : (st : State) (reduces : List (ℕ × Reduced)) (p x : ℕ) (v : 
 commit_is st reduces p x v e is = value_at reduces st.committed p x v e is
 
 -- ---- partitions put together
-
-pub gathering_more : (vs : List Reduced) (p : ℕ) (g : Gathering) (v : Reduced) → p < length vs → g ≡ gathering_of (take p vs) → v ≡ slice_index_or vs p nothing
-    → record { outputs = g.outputs ++ v.output ∷ []; groups = g.groups ++ v.groups ∷ [] } ≡ gathering_of (take (p + 1) vs)
-gathering_more vs p g v l is one =
-    (λ i. record { outputs = (is i).outputs ++ (one i).output ∷ []; groups = (is i).groups ++ (one i).groups ∷ [] })
-    ∙ sym (ap gathering_of (take_more vs p nothing l) ∙ (λ i. record {
-      outputs = map-append (λ (v : Reduced). v.output) (take p vs) (slice_index_or vs p nothing ∷ []) i;
-      groups = map-append (λ (v : Reduced). v.groups) (take p vs) (slice_index_or vs p nothing ∷ []) i;
-    }))
 
 pub mapped_more : {X : Type 0} (f : Reduced → X) (vs : List Reduced) (p : ℕ) (xs : List X) (v : Reduced) → p < length vs → xs ≡ map f (take p vs) → v ≡ slice_index_or vs p nothing
     → xs ++ f v ∷ [] ≡ map f (take (p + 1) vs)

@@ -5,7 +5,6 @@ use Rattle.std.specs.Option.{unwrap_or}
 use Rattle.mr_bytes.specs.declared.Name.{Name}
 use Rattle.mr_certform.specs.declared.version.Version.{Version}
 use Rattle.mr_certform.specs.Value.{Contents, CanSpell, SpellsIn}
-use Rattle.mr_sequential.specs.Rules.{Text}
 use Rattle.mr_task.specs.Values.{Reduced}
 use Rattle.mr_core.specs.Master.{State}
 use Rattle.mr_book.specs.Assembled.{committed_values, nothing}
@@ -26,12 +25,3 @@ SpellsWhereItCan version bytes c = AllByRecursion (CanSpell version) c.groups �
 -- of no public promise: the left-out sets of the splits
 abbrev pub sets_of : State → List (List ℕ)
 sets_of st = map (λ sp. sp.skips) st.splits
-
--- of no public promise: the files and the groups of the partitions so far
-pub record Gathering : Type 0 where
-  pub outputs : List Text
-  pub groups : List (List (List Name))
-
--- those of reduce outputs
-abbrev pub gathering_of : List Reduced → Gathering
-gathering_of vs = record { outputs = map (λ v. v.output) vs; groups = map (λ v. v.groups) vs }
