@@ -62,11 +62,16 @@ const OPENINGS: usize = 64;
 
 const FEW_WINDOWS: usize = 4096;
 
-/// For how many entries the lists of a section of `most` items have room at first. Its entries don't
-/// spread evenly over the windows: of many lists most would be too long, and none is made shorter.
-/// How many items the last section has is not known, and its lists begin with none.
+/// For how many entries the lists of a section of `most` items have room at first: an eighth more
+/// than its items, since they don't spread evenly over the windows, and a list that grows leaves a
+/// hole behind. Room that isn't filled takes no memory. How many items the last section has is not
+/// known, and its lists begin with none.
 fn entries_expected(most: u64) -> u64 {
-    if most == u64::MAX { 0 } else { most - most / 4 }
+    if most == u64::MAX {
+        0
+    } else {
+        most.saturating_add(most / 8)
+    }
 }
 
 /// Walks a section from the border at which it is guessed to begin, for at most `most` items.
