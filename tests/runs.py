@@ -95,7 +95,7 @@ def whole_splits(harness):
     wanted = b"a\t1\nb\t2\n", [[(0, 0, 1)], [(0, 0, 0), (0, 0, 2)]]
     harness.check("one run, reduced", [reduced(line) for line in lines if "|" in line] == [wanted], repr(lines))
     lines = lines_of(words, data, 0, ["3 0"])
-    harness.check("nothing to reduce", lines == ["", "[]|[]|[]||[]|[]|[]"], repr(lines))
+    harness.check("nothing to reduce", lines == ["", "[]|[]|[]"], repr(lines))
     lines = lines_of(lines_with, b"xb\nno\nxb\n", 0)
     harness.check("lines with a literal", len(lines) == 4 and lines[0].count(";") == 1, repr(lines))
     harness.check("lines twice, and cut", lines[1:3] == twice_and_cut, repr(lines))
