@@ -11,7 +11,7 @@ ghost use Rattle.std.specs.Prelude.{OnOk, OnErr, length};
 ghost use Rattle.mr_group.specs.Print.{IsPrint};
 ghost use Rattle.mr_group.specs.Interner.{IsKeyAt, IsSlotOf, key_at};
 
-use crate::print::{Print, print_of};
+use crate::print::{Print, placed, print_of};
 use crate::slots::{Slot, empty_all, length_of, look, put, refilled};
 use crate::texts::Texts;
 use std::alloc::{AllocError, Global};
@@ -128,9 +128,10 @@ impl Interner {
     {
         self.make_room(alloc)?;
         let number = self.texts.len() as u32;
+        let start = self.texts.byte_count();
         self.texts.push(key)?;
         let slot = Slot {
-            print,
+            print: placed(print, key, start),
             length: length_of(key),
             number,
         };

@@ -1,7 +1,7 @@
 //! What sixteen bytes say about a key, and where a table begins to look for it.
 //!
 //!     key of at most 16 bytes    first and last bytes:  "mapred" -> mapr, pred
-//!     longer key                 a hash of all of it, and its last eight bytes
+//!     longer key                 a hash of all of it; in a table, where its text begins
 //!
 //! First and last bytes may overlap. With its length they determine a key of at most 16 bytes. Of a
 //! longer key a print only tells most others, so its bytes are compared too.
@@ -14,6 +14,7 @@ ghost use Rattle.mr_group.specs.Print.{IsPrint};
 pub(crate) const MOST_TOLD: usize = 16;
 
 /// The first and the last bytes of a key as numbers: eight of each, or four of a key under eight.
+/// Of a key over 16 bytes `first` is a hash.
 #[derive(Clone, Copy)]
 pub(crate) struct Print {
     pub first: u64,
@@ -72,7 +73,7 @@ fn short_print(key: &[u8]) -> Option<Print>
     })
 }
 
-/// The print of a key over 16 bytes. The last bytes that fill no word are in `last`.
+/// The print of a key over 16 bytes. The last bytes that fill no word are among `print.last`.
 #[inline(never)]
 fn hashed_print(print: Print, key: &[u8]) -> Print
     requires { MOST_TOLD < length key.now }
@@ -83,8 +84,22 @@ fn hashed_print(print: Print, key: &[u8]) -> Print
         first = mixed(first, u64::from_le_bytes(*word));
     }
     Print {
-        first,
+        first: mixed(first, print.last),
         last: print.last,
+    }
+}
+
+/// The print as a table has it, of a key whose text begins there.
+pub(crate) fn placed(print: Print, key: &[u8], start: usize) -> Print
+    requires { IsPrint print key.now }
+    ensures { IsPrint result key.now }
+{
+    if key.len() <= MOST_TOLD {
+        return print;
+    }
+    Print {
+        first: print.first,
+        last: start as u64,
     }
 }
 
@@ -123,6 +138,9 @@ fn mixed(hash: u64, word: u64) -> u64 {
 /// A hash of the print and the length: where the table begins to look. Only time depends on it.
 #[inline(always)]
 pub(crate) fn hash_of(print: Print, length: u32) -> u64 {
+    if MOST_TOLD < length as usize {
+        return print.first;
+    }
     let last = print.last ^ (u64::from(length) << 56);
     let sum = print
         .first

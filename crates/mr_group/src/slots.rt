@@ -5,7 +5,8 @@
 //! A look begins at the slot that a hash of the print names, and goes on from slot to slot until it
 //! finds the key, or an empty slot, or has looked at 256. So a key of at most 16 bytes is told by
 //! its slot alone, keys made to collide cost 256 looks each at most, and a key past them may get a
-//! second number.
+//! second number. The slot of a longer key tells where its bytes begin, so that a look waits for
+//! them and for the place of its number at once.
 //! Invariant: a slot that tells a short key has the print and the length of the key of its number.
 //! Cost: about two looks a key; a slot is filled anew from its print, without a look at its key.
 ghost use Rattle.std.specs.Prelude.{◌≡◌, ℕ, ◌<◌, List, All, IfOk, IfSome, IsTrue, length};
@@ -55,17 +56,18 @@ pub(crate) fn length_of(key: &[u8]) -> u32
     key.len().min(NO_LENGTH as usize) as u32
 }
 
-/// Whether this is the slot of the key. Compares all of a print, so that no branch waits.
+/// Whether this is the slot of the key. Of a short key it compares all of a print without a branch.
 #[inline(always)]
 fn is_slot_of(slot: Slot, texts: &Texts, print: Print, key: &[u8]) -> bool
     requires slot { IsSlotOf texts.now slot }
     requires print { IsPrint print key.now }
     ensures { IsTrue result → IsKeyAt texts.now slot.number key.now }
 {
+    let is_long = MOST_TOLD < key.len();
     let is_told = (slot.print.first == print.first)
-        & (slot.print.last == print.last)
+        & (is_long | (slot.print.last == print.last))
         & (slot.length as usize == key.len());
-    is_told && (key.len() <= MOST_TOLD || texts.is_at(slot.number as usize, key))
+    is_told && (!is_long || texts.is_at(slot.number as usize, slot.print.last as usize, key))
 }
 
 /// The key's number, if the table finds it.

@@ -1,6 +1,6 @@
 //! Texts in one buffer, one behind another, each with its place.
 ghost use Rattle.std.specs.Prelude.{◌≡◌, ◌+◌, ◌<◌, ◌++◌, ◌∷◌, [], IfOk, IsTrue};
-ghost use Rattle.std.specs.Prelude.{OnOk, OnErr, length};
+ghost use Rattle.std.specs.Prelude.{OnOk, OnErr, length, slice_range};
 ghost use Rattle.mr_group.specs.Interner.{IsKeyAt, key_at};
 
 use mr_bytes::Span;
@@ -41,6 +41,18 @@ fn span_behind(bytes: usize, text: &[u8]) -> Result<Span, AllocError>
     })
 }
 
+/// Whether the span begins there, and its bytes are the key. Reads the bytes without the span, so
+/// that nothing waits for it.
+fn is_key_at(bytes: &[u8], span: Span, start: usize, key: &[u8]) -> bool
+    ensures { IsTrue result → slice_range bytes.now span.start span.end ≡ key.now }
+{
+    let end = start.saturating_add(key.len());
+    if bytes.len() < end {
+        return false;
+    }
+    &bytes[start..end] == key && span.start as usize == start && span.end as usize == end
+}
+
 impl Texts {
     pub(crate) fn new(alloc: Global) -> Texts
         ensures { result ≡ [] }
@@ -67,11 +79,16 @@ impl Texts {
         &self.bytes[span.start as usize..span.end as usize]
     }
 
-    /// Whether text `i` exists and is the key.
-    pub(crate) fn is_at(&self, i: usize, key: &[u8]) -> bool
+    /// Whether text `i` exists, begins with that byte of all, and is the key.
+    pub(crate) fn is_at(&self, i: usize, start: usize, key: &[u8]) -> bool
         ensures { IsTrue result → IsKeyAt self.now i key.now }
     {
-        i < self.len() && self.get(i) == key
+        i < self.len() && is_key_at(&self.bytes, self.spans[i], start, key)
+    }
+
+    /// How many bytes all texts have.
+    pub(crate) fn byte_count(&self) -> usize {
+        self.bytes.len()
     }
 
     pub(crate) fn push(&mut self, text: &[u8]) -> Result<(), AllocError>

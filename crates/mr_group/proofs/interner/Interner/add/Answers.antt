@@ -8,5 +8,5 @@ invariant_of-self-2 c =
     let texts : List (List ℕ) = c.self.inside.texts in
     let key : List ℕ = c.args.key.now in
     subst (λ (l : List (List ℕ)). All (IsSlotOf l) c.put.new.slots.items) (sym c.in_ok-push.ensures.ok)
-    (c.put.ensures _ (slot-last texts key _ (omega (arith, c.len-number.ensures)) c.length_of.ensures c.requires.print)
+    (c.put.ensures _ (slot-last texts key _ (omega (arith, c.len-number.ensures)) c.length_of.ensures c.placed.ensures)
     (slots-more texts key c.self.inside.slots.items c.self.invariant))
