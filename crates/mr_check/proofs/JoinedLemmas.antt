@@ -1,5 +1,5 @@
 -- Places in outputs, one after another.
-use Rattle.std.proofs.Common.{◌≡◌, inl, inr, ℕ, zero, suc, ◌+◌, ◌-◌, Option, None, Some, get_or, ◌<◌, ◌≤◌, List, [], ◌∷◌, ◌++◌, length, take, drop, refl, ap, sym, ◌∙◌, arith, length-append}
+use Rattle.std.proofs.Common.{◌≡◌, inl, inr, ℕ, zero, suc, ◌+◌, ◌-◌, Option, None, Some, get_or, ◌<◌, ◌≤◌, List, [], ◌∷◌, ◌++◌, length, take, drop, ap, sym, ◌∙◌, arith, length-append}
 use Rattle.std.specs.Prelude.{IfSome, Vec, slice_index}
 use Rattle.std.specs.Global.{Global}
 use Rattle.std.proofs.lemmas.List.{drop-append-le, get_or-map, get_or_default, length-map}
@@ -26,9 +26,6 @@ joined_at (o ∷ os) (suc p) n h low =
 pub begins_at : (os : List (List ℕ)) (p n place : ℕ) → p < length os → n ≤ length (nth_file os p) → place ≡ length (joined (take p os)) + n
     → Extends (drop n (nth_file os p)) (drop place (joined os))
 begins_at os p n place h low is = record { more = joined (drop (p + 1) os); is = ap (λ k. drop k (joined os)) is ∙ joined_at os p n h low }
-
-pub begins_empty : (bytes : List ℕ) → Extends [] bytes
-begins_empty bytes = record { more = bytes; is = refl }
 
 -- where the next output begins
 pub start_next : (os : List (List ℕ)) (p : ℕ) → p < length os → length (joined (take (p + 1) os)) ≡ length (joined (take p os)) + length (nth_file os p)

@@ -48,15 +48,6 @@ drop_on n m at is js all e d s = d ∙ (ap (drop n) e ∙ (drop-drop n at all �
 
 -- ---- walks that fit together
 
--- where no walk is joined, all items are left
-pub joined_first : (s : Subject) (all : Walker) (sec : Section) (b : Border) → IsAt all sec → sec.at ≡ 0 → at_border b ≡ start → JoinedTo s (items_left all) (items_left sec.walker) b 0
-joined_first s all sec b is at begins =
-    let here : items_left sec.walker ≡ items_left all = is.left ∙ ap (λ n. drop n (items_left all)) at in
-    record {
-      faults = λ stop. ap (λ (w : List Item). part_faults s stop start w) (sym here) ∙ ap (λ (st : Reached). part_faults s stop (record st { named = 0 }) (items_left sec.walker)) (sym begins);
-      named = omega (arith, ap entries_in here);
-    }
-
 came_as : (s : Subject) (is : List Item) (w : Walked) (came : Came) → w.came ≡ came → CameTo s is w w.came → CameTo s is w came
 came_as s is w came e h = subst (CameTo s is w) e h
 

@@ -30,7 +30,7 @@ use Rattle.mr_judge.specs.Borders.{IsSmall}
 use Rattle.mr_check.specs.Sections.{AllPass, end_tests}
 use Rattle.mr_verdict.specs.Verdict.{Reached, Subject, start, tests, after, after_entry, behind_group, part_faults, first, entries_in, with_entry}
 use Rattle.mr_verdict.specs.Steps.{Known, Room, subject}
-use Rattle.mr_verdict.specs.Items.{Coming, CanCome, Took}
+use Rattle.mr_verdict.specs.Items.{Coming, Took}
 use Rattle.mr_judge.specs.declared.border.FoundItem.{FoundItem}
 use Rattle.mr_judge.specs.Rows.{brought, row_after, item_after}
 use Rattle.mr_judge.proofs.Faults.{fine}
@@ -147,14 +147,6 @@ going_next old now new k before after_ first st next n m i other going took kept
     let p = passed holds in
     let behind : left ≡ drop m g.0 = ap (drop 1) g.1.1.0 ∙ (drop-drop 1 n g.0 ∙ ap (λ w. drop w g.0) (sym e)) in
     (g.0, (g.1.0, (behind, passed_next (subject k) first st next g.0 left i other g.1.1.1 p.0 p.1)))
-
--- behind the end
-pub going_ends : (old now new : Coming) (k : Known) (claims : List Claim) (first st : Reached) (n : ℕ) → Going old now k claims first st n → Took now new (Ok End) → CanCome new
-    → HoldsFor k claims → (is : List Item) × ((at : ℕ) × (old is at × Passed (subject k) first st is (End ∷ [])))
-going_ends old now new k claims first st n going took (left, (at, there)) holds =
-    let t = took left at there in
-    let g = going holds left at t.0 in
-    (g.0, (at, (g.1.0, subst (λ (w : List Item). Passed (subject k) first st g.0 w) t.1 g.1.1.1)))
 
 -- ---- all items passed
 
