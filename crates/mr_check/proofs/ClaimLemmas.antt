@@ -87,10 +87,3 @@ all_in P bits (w ∷ ws) (l ∷ ls) h =
 pub claims_right : (ts : List Triple) (bytes : List ℕ) (t : Taken) → ((w : ℕ) → w < length t.windows.list → IsRightWindow ts bytes t w) → AreRight ts bytes (claims_of t)
 claims_right ts bytes t h = all_in (IsRight ts bytes) t.windows.bits t.windows.list t.lists h
 
--- a claim is right where its line begins with bytes that tell the key of its pair
-pub right_claim : (ts : List Triple) (bytes front : List ℕ) (c : Claim) (t : Triple) → named ts c.name ≡ Some t → Extends front (drop c.line bytes) → told_key front ≡ Some t.key → IsRight ts bytes c
-right_claim ts bytes front c t found h told = (t, (found, told_from front (drop c.line bytes) t.key h told))
-
--- what was put off is still claimed after more
-pub put_off_more : (first old new : List Claim) (a b : Claim) → PutsOff first a old → PutsOff old b new → PutsOff first a new
-put_off_more first old new a b h more = record { kept = λ x there. more.kept x (h.kept x there); put = more.kept a h.put }

@@ -235,6 +235,21 @@ impl LateList {
     {
         self.late.as_slice()
     }
+
+    /// Gives back the room that isn't filled.
+    fn pack(&mut self)
+        ensures { self.new ≡ self.old }
+    {
+        self.late.shrink_to_fit();
+    }
+}
+
+fn pack_all(lists: &mut [LateList])
+    ensures { lists.new ≡ lists.old }
+{
+    for list in lists.iter_mut() {
+        list.pack();
+    }
 }
 
 #[inline(always)]
@@ -325,6 +340,13 @@ impl<'a> Claims<'a> {
         push_late(self.lists.as_mut_slice(), w, Late { line, low })?;
         self.left -= cost;
         Ok(true)
+    }
+
+    /// Gives back the room of lists that isn't filled.
+    pub fn pack(&mut self)
+        ensures { self.new ≡ self.old }
+    {
+        pack_all(self.lists.as_mut_slice());
     }
 
     /// The late entries of window `w`.

@@ -62,19 +62,8 @@ const OPENINGS: usize = 64;
 
 const FEW_WINDOWS: usize = 4096;
 
-/// For how many entries the lists of a section of `most` items have room at first: an eighth more
-/// than its items, since they don't spread evenly over the windows, and a list that grows leaves a
-/// hole behind. Room that isn't filled takes no memory. How many items the last section has is not
-/// known, and its lists begin with none.
-fn entries_expected(most: u64) -> u64 {
-    if most == u64::MAX {
-        0
-    } else {
-        most.saturating_add(most / 8)
-    }
-}
-
-/// Walks a section from the border at which it is guessed to begin, for at most `most` items.
+/// Walks a section from the border at which it is guessed to begin, for at most `most` items. How
+/// many items the last section has is not known: its lists begin without room.
 fn walk_section<'a>(
     alloc: Global,
     given: &Given<'a>,
@@ -86,10 +75,13 @@ fn walk_section<'a>(
     ensures windows { IfOk result (IsByWindows given.now) }
     ensures walked { IfOk result (IsWalked (known given.now) (items_left section.now.walker)) }
 {
-    let claims = claims_for(alloc, given, entries_expected(most))?;
+    let expected = if most == u64::MAX { 0 } else { most };
+    let claims = claims_for(alloc, given, expected)?;
     let mut walk = Walk::at(alloc, given, &began, claims);
     let mut items = section.walker;
     let came = walk.take_some(given, &mut items, most, &Unwatched);
+    // All walks stand until the windows are tested, so none keeps more than it put off.
+    walk.claims.pack();
     Ok(walk.end(began, most, came))
 }
 
