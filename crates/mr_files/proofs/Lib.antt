@@ -6,3 +6,4 @@ pub mod Written
 pub mod Stopped
 pub mod Readers
 pub mod Known
+pub mod RangeLemmas

@@ -1,5 +1,5 @@
 -- What several readers may give, and how many of their reads failed, one reader more.
-use Rattle.std.proofs.Common.{◌≡◌, ℕ, zero, suc, Option, List, [], ◌∷◌, ◌++◌, get_or, map, refl, ap, subst, sym, ◌∙◌}
+use Rattle.std.proofs.Common.{◌≡◌, ℕ, zero, suc, Option, List, [], ◌∷◌, ◌++◌, get_or, map, drop, refl, ap, subst, sym, ◌∙◌}
 use Rattle.std.proofs.lemmas.List.{map-append}
 use Rattle.mr_files.specs.Holding.{Agrees, AllAgree, Holding}
 use Rattle.mr_files.proofs.Lists.{holding_more}
@@ -42,3 +42,17 @@ read_more before after r f holds names all n more is h k outs a =
 
 pub failed_more : {A : Type 0} (before after : List A) (r : A) (f : A → ℕ) → after ≡ before ++ r ∷ [] → ((p : ℕ) → get_or (map f before) p 0 ≡ 0) → f r ≡ 0 → (p : ℕ) → get_or (map f after) p 0 ≡ 0
 failed_more before after r f more h k p = ap (λ ks. get_or ks p 0) (ap (map f) more ∙ map-append f before (r ∷ [])) ∙ none_more (map f before) (f r) h k p
+
+-- bytes with so many in front
+padded : ℕ → List ℕ → List ℕ
+padded zero b = b
+padded (suc n) b = 0 ∷ padded n b
+
+drop_padded : (n : ℕ) (b : List ℕ) → b ≡ drop n (padded n b)
+unfolding padded
+drop_padded zero b = refl
+drop_padded (suc n) b = drop_padded n b
+
+-- any bytes stand behind some place of some file
+pub some_file : (at : ℕ) (b : List ℕ) → (file : List ℕ) × (b ≡ drop at file)
+some_file at b = (padded at b, drop_padded at b)

@@ -1,5 +1,5 @@
 -- What stands under names.
-use Rattle.std.specs.Prelude.{◌≡◌, ◌≢◌, ◌⊎◌, ◌↔◌, ℕ, ◌≤◌, List, [], ◌∷◌, length, take, Option, IfSome, ⊤}
+use Rattle.std.specs.Prelude.{◌≡◌, ◌≢◌, ◌⊎◌, ◌↔◌, ℕ, ◌≤◌, List, [], ◌∷◌, length, take, drop, Option, IfSome, ⊤}
 
 -- where the bytes are known, they are these
 abbrev pub Agrees : Option (List ℕ) → List ℕ → Type 0
@@ -28,6 +28,10 @@ Holding holds _ _ = ⊥
 -- what stands under any other name stands there as before
 abbrev pub ChangesOnly : Stored → Stored → List ℕ → Type 0
 ChangesOnly old new name = (n b : List ℕ) → n ≢ name → old n b ↔ new n b
+
+-- these are the bytes from that one on of what stands under the name: none, where it is no longer than that
+abbrev pub HoldsFrom : Stored → List ℕ → ℕ → List ℕ → Type 0
+HoldsFrom holds name at bytes = (file : List ℕ) × holds name file × (bytes ≡ drop at file)
 
 -- nothing stands under the name that didn't stand there
 abbrev pub Shrinks : Stored → Stored → List ℕ → Type 0

@@ -20,7 +20,7 @@ use mr_store::{CountedRead, CountedWrite, Device, ReadFault};
 use std::alloc::{AllocError, Global};
 use std::cell::Cell;
 use std::fs::{self, File, Metadata};
-use std::io::{self, ErrorKind, Write};
+use std::io::{self, ErrorKind, Seek, SeekFrom, Write};
 use std::mem;
 use std::os::unix::fs::MetadataExt;
 use std::rt::Files;
@@ -52,12 +52,23 @@ fn closed<F>() -> io::Result<F> {
     Err(io::Error::from(ErrorKind::Other))
 }
 
+/// Opens a file at byte `at`, or at its end if that comes before. A pipe is opened at 0 alone.
+fn open_at<R: Files>(rt: &R, name: &str, at: u64) -> io::Result<R::File> {
+    let mut file = File::open(rt, name)?;
+    if at > 0 {
+        let end = file.seek(SeekFrom::End(0))?;
+        file.seek(SeekFrom::Start(at.min(end)))?;
+    }
+    Ok(file)
+}
+
 /// Opens at the first read; closes at the end or at a failed call, after which each call fails.
 #[derive(Drop)]
 pub struct FileReader<'a, R: Files> {
     rt: &'a R,
     last: &'a Cell<i32>,
     name: String,
+    at: u64,
     handle: Handle<R::File>,
     failures: Failures,
 }
@@ -67,7 +78,7 @@ impl<'a, R: Files> FileReader<'a, R> {
         ensures { self.new.failures ≡ self.old.failures }
     {
         match mem::replace(&mut self.handle, Handle::Closed) {
-            Handle::Unopened => File::open(self.rt, self.name.as_str()),
+            Handle::Unopened => open_at(self.rt, self.name.as_str(), self.at),
             Handle::Open(file) => Ok(file),
             Handle::Ended | Handle::Closed => closed(),
         }
@@ -296,11 +307,17 @@ impl<'a, R: Files> Store for DiskFiles<'a, R> {
         }
     }
 
-    fn reader(&self, alloc: Global, name: &str) -> Result<FileReader<'a, R>, ReadFault> {
+    fn reader_from(
+        &self,
+        alloc: Global,
+        name: &str,
+        at: u64,
+    ) -> Result<FileReader<'a, R>, ReadFault> {
         Ok(FileReader {
             rt: self.rt,
             last: self.last,
             name: String::from_str(alloc, name)?,
+            at,
             handle: Handle::Unopened,
             failures: Failures::new(),
         })

@@ -2,7 +2,8 @@
 //!
 //!     Store    MemoryFiles     clauses name the bytes
 //!              DiskFiles       clauses know nothing of bytes: people read `disk.rt` for that
-//!     read     read_file, read_file_within, read_files_within, read_result_within, result_readers
+//!     read     read_file, read_file_within, read_range_within, read_files_within,
+//!              read_result_within, result_readers
 //!     write    write_file, write_files
 //!
 //! All code above is proved for every store, and can't find out which it has. Reading changes no
@@ -13,6 +14,7 @@
 mod disk;
 mod memory;
 mod names;
+mod ranges;
 mod reading;
 mod result;
 mod store;
@@ -24,6 +26,7 @@ pub use crate::names::{
     Inspect, PathKind, add_names, certificate_name, first_shared, folder_of, names_of_result,
     part_file, part_name, verdict_name,
 };
+pub use crate::ranges::{RangeFault, read_range_within};
 pub use crate::reading::{
     LimitFault, read_file, read_file_within, read_files_within, read_result_within,
 };

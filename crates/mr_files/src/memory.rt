@@ -1,5 +1,5 @@
 //! Files in memory, for tests of code over a store. Each may fail on demand. A look-up scans all.
-ghost use Rattle.std.specs.Prelude.{◌≡◌, ◌∷◌, [], Some, IfOk, OnOk, OnErr, MatchOption, true};
+ghost use Rattle.std.specs.Prelude.{◌≡◌, ◌∷◌, [], Some, IfOk, OnOk, OnErr, MatchOption, true, drop};
 ghost use Rattle.mr_files.specs.declared.memory.Entry.{Entry};
 ghost use Rattle.mr_files.specs.Memory.{Found, Stands, OneContent, IsPut, IsUnreadable};
 ghost use Rattle.mr_files.specs.Memory.{IsUnwritable};
@@ -50,6 +50,16 @@ fn bytes_of<'a>(entries: &'a [Entry], name: &str) -> Option<&'a [u8]>
             Some(&entry.bytes)
         },
         None => None,
+    }
+}
+
+fn behind(bytes: &[u8], at: u64) -> &[u8]
+    ensures { result.now ≡ drop at bytes.now }
+{
+    if at < bytes.len() as u64 {
+        &bytes[at as usize..]
+    } else {
+        &[]
     }
 }
 
@@ -120,9 +130,12 @@ impl Store for MemoryFiles {
         }
     }
 
-    fn reader(&self, alloc: Global, name: &str) -> Result<MemoryReader, ReadFault> {
+    fn reader_from(&self, alloc: Global, name: &str, at: u64) -> Result<MemoryReader, ReadFault> {
         match bytes_of(&self.entries, name) {
-            Some(bytes) => Ok(MemoryReader::new(Vec::from_slice(alloc, bytes)?, MOST, None)),
+            Some(bytes) => {
+                let bytes = Vec::from_slice(alloc, behind(bytes, at))?;
+                Ok(MemoryReader::new(bytes, MOST, None))
+            }
             None => Err(ReadFault::Device),
         }
     }

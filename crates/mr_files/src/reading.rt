@@ -13,7 +13,7 @@ ghost use Rattle.mr_files.specs.Refusals.{IsUnread, IsOneUnread, IsFault, IsOneU
 ghost use Rattle.mr_files.specs.Refusals.{IsReadRefusalWithin, IsUnreadWithin};
 ghost use Rattle.std.specs.List.{AllByRecursion};
 ghost use Rattle.mr_input.specs.Files.{contents, total_size};
-ghost use Rattle.mr_files.specs.Holding.{Holding};
+ghost use Rattle.mr_files.specs.Holding.{Agrees, Holding};
 
 use crate::names::{certificate_name, part_name};
 use crate::store::{FileFault, Store};
@@ -109,7 +109,33 @@ impl From<AllocError> for LimitFault {
     }
 }
 
+/// The bytes that the file's reader has left, at most `limit`. It reads at most one byte past it.
+pub(crate) fn read_rest<R: CountedRead>(
+    reader: &mut R,
+    alloc: Global,
+    name: &str,
+    limit: u64,
+) -> Result<Vec<u8>, LimitFault>
+    ensures bytes { IfOk result (λ v. Agrees (R.remaining reader.old) v.items) }
+    ensures within { IfOk result (λ v. length v.items ≤ limit) }
+    ensures refused { IfErr result (λ e. IsUnreadWithin (λ _ b. Agrees (R.remaining reader.old) b)
+        (λ _. R.can_fail reader.old) name.now limit e) }
+{
+    let mut bytes = Vec::new(alloc);
+    match read_limited(reader, &mut bytes, limit) {
+        Ok(()) => Ok(bytes),
+        Err(LimitedFault::TooLong) => Err(LimitFault::TooLong),
+        Err(LimitedFault::Device) if !reader.is_out_of_memory() => Err(LimitFault::File(fault_of(
+            alloc,
+            name,
+            ReadFault::Device,
+        ))),
+        Err(_) => Err(LimitFault::File(FileFault::OutOfMemory)),
+    }
+}
+
 /// The bytes of the file of that name, at most `limit`. It reads at most one byte past the limit.
+#[tactic(auto, using(crate::proofs::RangeLemmas::unread_within))]
 pub fn read_file_within<S: Store>(
     store: &S,
     alloc: Global,
@@ -121,20 +147,9 @@ pub fn read_file_within<S: Store>(
     ensures refused { IfErr result
         (λ e. IsUnreadWithin (S.holds store.now) (S.unreadable store.now) name.now limit e) }
 {
-    let mut reader = match store.reader(alloc, name) {
-        Ok(reader) => reader,
-        Err(fault) => return Err(LimitFault::File(fault_of(alloc, name, fault))),
-    };
-    let mut bytes = Vec::new(alloc);
-    match read_limited(&mut reader, &mut bytes, limit) {
-        Ok(()) => Ok(bytes),
-        Err(LimitedFault::TooLong) => Err(LimitFault::TooLong),
-        Err(LimitedFault::Device) if !reader.is_out_of_memory() => Err(LimitFault::File(fault_of(
-            alloc,
-            name,
-            ReadFault::Device,
-        ))),
-        Err(_) => Err(LimitFault::File(FileFault::OutOfMemory)),
+    match store.reader(alloc, name) {
+        Ok(mut reader) => read_rest(&mut reader, alloc, name, limit),
+        Err(fault) => Err(LimitFault::File(fault_of(alloc, name, fault))),
     }
 }
 

@@ -7,7 +7,7 @@
 //! file as it was. After `close` the file holds what was written, if all of that was flushed.
 ghost use Rattle.std.specs.Prelude.{◌≡◌, ◌≢◌, ◌⊎◌, ℕ, Option, Some, List, [], OnOk, IfOk, false};
 ghost use Rattle.std.specs.Prelude.{true, option_map, string_bytes};
-ghost use Rattle.mr_files.specs.Holding.{Agrees, ChangesOnly, Shrinks};
+ghost use Rattle.mr_files.specs.Holding.{Agrees, ChangesOnly, HoldsFrom, Shrinks};
 ghost use Rattle.mr_store.specs.Devices.{Seen};
 
 use mr_store::{CountedRead, CountedWrite, ReadFault};
@@ -70,6 +70,18 @@ pub trait Store {
     fn reader(&self, alloc: Global, name: &str) -> Result<Self::Reader, ReadFault>
         ensures bytes { IfOk result
             (λ r. (b : List ℕ) → Agrees (Self.Reader.remaining r) b → holds self.now name.now b) }
+        ensures fails { IfOk result (λ r. Self.Reader.can_fail r → unreadable self.now name.now) }
+        ensures refused { result ≡ Err ReadFault.Device → unreadable self.now name.now }
+    {
+        self.reader_from(alloc, name, 0)
+    }
+
+    /// A reader of the file's bytes from byte `at` on. It returns no byte where `at` is the file's
+    /// end or lies behind it. It may open the file as late as its first read; where the file has no
+    /// such places, as a pipe, that read fails unless `at` is 0.
+    fn reader_from(&self, alloc: Global, name: &str, at: u64) -> Result<Self::Reader, ReadFault>
+        ensures bytes { IfOk result (λ r. (b : List ℕ) → Agrees (Self.Reader.remaining r) b
+            → HoldsFrom (holds self.now) name.now at b) }
         ensures fails { IfOk result (λ r. Self.Reader.can_fail r → unreadable self.now name.now) }
         ensures refused { result ≡ Err ReadFault.Device → unreadable self.now name.now };
 
