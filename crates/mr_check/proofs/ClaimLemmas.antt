@@ -1,5 +1,5 @@
 -- What was taken at its word, by windows.
-use Rattle.std.proofs.Common.{◌≡◌, Some, drop, ℕ, zero, suc, ◌<◌, List, [], ◌∷◌, ◌++◌, length, map, refl, ap, sym, ◌∙◌, subst, arith, append_assoc, inl, inr, set}
+use Rattle.std.proofs.Common.{◌≡◌, ℕ, zero, suc, ◌<◌, List, [], ◌∷◌, ◌++◌, length, map, refl, ap, sym, ◌∙◌, subst, arith, append_assoc, inl, inr, set}
 use Rattle.std.proofs.lemmas.List.{map_push}
 use Rattle.std.specs.List.{AllByRecursion, All}
 use Rattle.std.proofs.lemmas.List.Elements.{recursion_from_All}
@@ -8,10 +8,6 @@ use Rattle.mr_bytes.specs.Pairs.{Triple}
 use Rattle.mr_bytes.proofs.ListLaws.{Has-append_right}
 use Rattle.mr_check.specs.declared.claims.Late.{Late}
 use Rattle.mr_index.specs.declared.window.Window.{Window}
-use Rattle.mr_lanes.specs.Bits.{Extends}
-use Rattle.mr_sequential.specs.Good.{named}
-use Rattle.mr_check.specs.Lines.{told_key}
-use Rattle.mr_check.proofs.LineKeyLemmas.{told_from}
 use Rattle.mr_check.specs.Claims.{Claim, IsRight, AreRight, IsRightWindow, PutsOff, Taken, claim_of, claims_in, claims_of, nth_list, nth_window}
 
 -- ---- one more among others
@@ -86,4 +82,3 @@ all_in P bits (w ∷ ws) (l ∷ ls) h =
 -- where the entries of each window are right, all that was claimed is
 pub claims_right : (ts : List Triple) (bytes : List ℕ) (t : Taken) → ((w : ℕ) → w < length t.windows.list → IsRightWindow ts bytes t w) → AreRight ts bytes (claims_of t)
 claims_right ts bytes t h = all_in (IsRight ts bytes) t.windows.bits t.windows.list t.lists h
-
