@@ -1,5 +1,6 @@
-use Rattle.std.proofs.Common.{◌≡◌, length, map, take}
-use Rattle.mr_shard_files.proofs.merging.file_counts.Given as goal
+use Rattle.std.proofs.Common.{◌≡◌, map, take}
+use Rattle.mr_shard_files.specs.Beside.{files_told}
+use Rattle.mr_shard_files.proofs.merging.shard_files.Given as goal
 
 abbrev pub invariant-loop-shard : goal.invariant-loop-shard
-invariant-loop-shard l = l.counts.items ≡ map (λ v. length v.inputs) (take l.shard l.verdicts)
+invariant-loop-shard l = l.all.items ≡ map files_told (take l.shard l.verdicts)
