@@ -8,8 +8,10 @@ use Rattle.std.proofs.Math.Seq.{get_or-append_seam}
 use Rattle.mr_input.specs.Files.{nth_file}
 use Rattle.mr_files.specs.Holding.{Holding, Stored}
 use Rattle.mr_jobs.specs.JobSpec.{JobSpec}
+use Rattle.mr_shards.specs.declared.shift.ShardFiles.{ShardFiles}
 use Rattle.mr_shards.specs.declared.merger.ShardText.{ShardText}
-use Rattle.mr_shards.specs.Refused.{IsRest}
+use Rattle.mr_shards.specs.Portions.{past_shard}
+use Rattle.mr_shards.specs.Refused.{IsRest, IsShardText}
 use Rattle.mr_shards.specs.Joined.{AreOutputsAt, IsMergedAt}
 use Rattle.mr_shards.specs.Verdict.{Told}
 use Rattle.mr_shard_files.specs.Beside.{AreOutputs, IsPartition, StandsBeside, Tells, ReportsCause}
@@ -52,7 +54,7 @@ module _ (holds : Stored) (job : JobSpec) where
   )
 
   parts_more : (n : ℕ) (ns : List (List ℕ)) (vs : List Told) (pss : List (List (List ℕ))) (ts : List (List ℕ)) (os : List ShardText) → ArePartsOf holds job n ns vs pss
-      → Holding (StandsBeside holds n) ns ts → Tells n vs ts → AreOutputs vs ts os → AllByRecursion (λ o. IsRest job None o.text.now) os
+      → Holding (StandsBeside holds n) ns ts → Tells n vs ts → AreOutputs vs ts os → AllByRecursion (IsShardText job) os
       → ArePartsOf holds job (n + 1) ns vs (grown pss ts)
   parts_more n [] [] [] ts os a s k o l = tt
   parts_more n [] [] (ps ∷ pss) ts os a s k o l = absurd a
@@ -62,7 +64,7 @@ module _ (holds : Stored) (job : JobSpec) where
   parts_more n (m ∷ ns) (v ∷ vs) (ps ∷ pss) [] os a s k o l = absurd s
   parts_more n (m ∷ ns) (v ∷ vs) (ps ∷ pss) (t ∷ ts) [] a s k o l = absurd o
   parts_more n (m ∷ ns) (v ∷ vs) (ps ∷ pss) (t ∷ ts) (q ∷ os) a s k o l =
-      (part_more n m v ps t a.0 s.0 k.0 (subst (IsRest job None) o.1 l.0), parts_more n ns vs pss ts os a.1 s.1 k.1 o.2 l.1)
+      (part_more n m v ps t a.0 s.0 k.0 (subst (IsRest job None) o.1 l.0.0), parts_more n ns vs pss ts os a.1 s.1 k.1 o.2 l.1)
 
   -- what the shards have for the new partition, and for those before it
   outputs_new : (n : ℕ) (ns : List (List ℕ)) (vs : List Told) (pss : List (List (List ℕ))) (ts : List (List ℕ)) (os : List ShardText) → ArePartsOf holds job n ns vs pss
@@ -78,7 +80,7 @@ module _ (holds : Stored) (job : JobSpec) where
   outputs_new n (m ∷ ns) (v ∷ vs) (ps ∷ pss) (t ∷ ts) [] a o = absurd o
   outputs_new n (m ∷ ns) (v ∷ vs) (ps ∷ pss) (t ∷ ts) (q ∷ os) a o =
       let at : nth_file (ps ++ t ∷ []) n ≡ t = ap (λ k. nth_file (ps ++ t ∷ []) k) (sym a.0.count_is) ∙ get_or-append_seam ps t [] [] in
-      (o.0, o.1 ∙ sym at, outputs_new n ns vs pss ts os a.1 o.2)
+      (ap (λ (f : ShardFiles). (past_shard f)) o.0, o.1 ∙ sym at, outputs_new n ns vs pss ts os a.1 o.2)
 
   outputs_kept : (p n : ℕ) (ns : List (List ℕ)) (vs : List Told) (pss : List (List (List ℕ))) (ts : List (List ℕ)) (os : List ShardText) → p < n → ArePartsOf holds job n ns vs pss
       → Tells n vs ts → AreOutputsAt p vs pss os → AreOutputsAt p vs (grown pss ts) os

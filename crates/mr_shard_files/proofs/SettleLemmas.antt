@@ -6,13 +6,14 @@ use Rattle.std.specs.Prelude.{Option, IsTrue, ◌↔◌}
 use Rattle.mr_files.specs.Holding.{Agrees, Faulty, Holding, Stored}
 use Rattle.mr_files.specs.Names.{name_of_part}
 use Rattle.mr_jobs.specs.JobSpec.{JobSpec}
+use Rattle.mr_shards.specs.declared.shift.ShardFiles.{ShardFiles}
 use Rattle.mr_shards.specs.Pieces.{Reading, output_with, outputs_of}
 use Rattle.mr_shards.specs.Joined.{inputs_of, verdict_at}
 use Rattle.mr_shards.specs.Verdict.{Told}
 use Rattle.mr_shard_files.specs.declared.fault.ShardFault.{ShardFault}
 use Rattle.mr_shard_files.specs.declared.fault.ShardFault.TheVariants.{CannotRead, OtherPart, OutOfMemory}
 use Rattle.mr_shard_files.specs.declared.stream.Part.{Part}
-use Rattle.mr_shard_files.specs.Beside.{AreOutputs, IsPartition, StandsBeside, Tells, ReportsCause}
+use Rattle.mr_shard_files.specs.Beside.{AreOutputs, IsPartition, StandsBeside, Tells, ReportsCause, files_told}
 use Rattle.mr_shard_files.specs.Faults.{AreTold, IsPartAt, IsPartFault, IsPartitionFault, IsUnopened, name_at}
 use Rattle.mr_shard_files.specs.Streams.{AllAre, AllMayBe, AreJoined, AreOpened, AreUnsettled, CountsDown, Ends, HasRead, IsOpened, IsOther, IsRefused, IsSettled, IsStream, MayBe, Moves, OneIs, ReportsUnread, is_done, length_told}
 use Rattle.mr_files.proofs.Lists.{names_more}
@@ -147,7 +148,7 @@ module _ {R : Type 0} (remaining : R → Option (List ℕ)) (can_fail : R → Ty
       pub told : ReportsCause p v text
       pub reading : Reading
       pub text_is : reading.output.text.now ≡ text
-      pub may : MayBe (length v.inputs) x q reading
+      pub may : MayBe (files_told v) x q reading
 
     whole : (n : List ℕ) (v : Told) (x : List ℕ) (q m : Part R) → Stream n v x q → IsSettled remaining can_fail p v q m → Whole n v x q
     whole n v x q m s k =
@@ -163,7 +164,7 @@ module _ {R : Type 0} (remaining : R → Option (List ℕ)) (can_fail : R → Ty
           text = text;
           stands = (s.folder, s.is_folder, s.stands got agrees);
           told = subst (ReportsCause p v) same tells;
-          reading = record { output = output_with (length v.inputs) text; taken = length x };
+          reading = record { output = output_with (files_told v) text; taken = length x };
           text_is = refl;
           may = record { files_are = refl; taken_is = refl; more = got; text_is = refl; none_more = k.moves.still };
         }
@@ -178,7 +179,7 @@ module _ {R : Type 0} (remaining : R → Option (List ℕ)) (can_fail : R → Ty
       pub stand : Holding (StandsBeside holds p) ns texts
       pub told : Tells p vs texts
       pub outputs : AreOutputs vs texts (outputs_of readings)
-      pub may : AllMayBe (map (λ (v : Told). length v.inputs) vs) xs qs readings
+      pub may : AllMayBe (map files_told vs) xs qs readings
 
     pub wholes : (ns : List (List ℕ)) (vs : List Told) (xs : List (List ℕ)) (qs ms : List (Part R)) → AreStreams ns vs xs qs → AllAre (IsSettled remaining can_fail p) vs qs ms → Wholes ns vs xs qs
     wholes [] [] [] [] ms h k = record { texts = []; readings = []; stand = tt; told = tt; outputs = tt; may = tt }
@@ -265,7 +266,7 @@ module _ {R : Type 0} (remaining : R → Option (List ℕ)) (can_fail : R → Ty
         (λ s. (one.0, same, other_part (name_at ns i) (verdict_at vs i) (get_or xs i []) (get_or qs i d) s one.1))
     unsettled_at ns vs xs qs e h u = unread_at ns vs xs qs e h u
 
-    pub partition_joined : (job : JobSpec) (ns : List (List ℕ)) (vs : List Told) (qs : List (Part R)) (files : List ℕ) (text : List ℕ) → files ≡ map (λ (v : Told). length v.inputs) vs
+    pub partition_joined : (job : JobSpec) (ns : List (List ℕ)) (vs : List Told) (qs : List (Part R)) (files : List ShardFiles) (text : List ℕ) → files ≡ map files_told vs
         → AreOpened holds unreadable remaining can_fail p ns vs qs → AreJoined remaining can_fail job files p vs qs text → IsPartition holds job ns vs p text
     partition_joined job ns vs qs files text is h j =
         let w = wholes ns vs j.merged.passed j.mid j.new (opened_moved ns vs j.merged.passed qs j.mid h j.merged.moved) j.settled in
@@ -281,7 +282,7 @@ module _ {R : Type 0} (remaining : R → Option (List ℕ)) (can_fail : R → Ty
           whole = m.whole;
         }
 
-    pub partition_refused : (job : JobSpec) (ns : List (List ℕ)) (vs : List Told) (qs : List (Part R)) (files : List ℕ) (e : ShardFault) → length (inputs_of vs) < 2 ^ 32 → files ≡ map (λ (v : Told). length v.inputs) vs
+    pub partition_refused : (job : JobSpec) (ns : List (List ℕ)) (vs : List Told) (qs : List (Part R)) (files : List ShardFiles) (e : ShardFault) → length (inputs_of vs) < 2 ^ 32 → files ≡ map files_told vs
         → AreOpened holds unreadable remaining can_fail p ns vs qs → IsRefused remaining can_fail job files p vs qs e → IsPartitionFault holds unreadable job ns vs p e
     partition_refused job ns vs qs files e few is h (inl none) = inl (inl none)
     partition_refused job ns vs qs files e few is h (inr (inl one)) = inl (inr (unread_at ns vs (nothings qs) qs e (opened_moved ns vs (nothings qs) qs qs h (all_none remaining can_fail qs)) one))

@@ -4,6 +4,7 @@ use Rattle.std.proofs.lemmas.List.{length-take-le}
 use Rattle.std.proofs.lemmas.Result.{IfErr-at_err}
 use Rattle.std.specs.Prelude.{Err, IfErr, Option, Result}
 use Rattle.mr_jobs.specs.JobSpec.{JobSpec}
+use Rattle.mr_shards.specs.declared.shift.ShardFiles.{ShardFiles}
 use Rattle.mr_shards.specs.declared.window.Window.{Window}
 use Rattle.mr_shards.specs.declared.merger.MergeFault.{MergeFault}
 use Rattle.mr_shards.specs.Refused.{Blames}
@@ -78,7 +79,7 @@ module _ {R : Type 0} (remaining : R → Option (List ℕ)) (can_fail : R → Ty
   all_passed (x ∷ xs) (a ∷ bs) (o ∷ os) (n ∷ ns) (c ∷ cs) h k = (moves_on remaining can_fail a o n x (take c o.held) h.0 k.0, all_passed xs bs os ns cs h.1 k.1)
 
   -- what a part may be now, it may have been before
-  may_back : (f : ℕ) (x y : List ℕ) (o n : Part R) (r : Reading) → Moves remaining can_fail y o n → MayBe f (x ++ y) n r → MayBe f x o (record { output = r.output; taken = length x })
+  may_back : (f : ShardFiles) (x y : List ℕ) (o n : Part R) (r : Reading) → Moves remaining can_fail y o n → MayBe f (x ++ y) n r → MayBe f x o (record { output = r.output; taken = length x })
   may_back f x y o n r m h = record {
     files_are = h.files_are;
     taken_is = refl;
@@ -91,7 +92,7 @@ module _ {R : Type 0} (remaining : R → Option (List ℕ)) (can_fail : R → Ty
   same_reading : (r : Reading) (k : ℕ) → r.taken ≡ k → record { output = r.output; taken = k } ≡ r
   same_reading r k e = ap (λ (j : ℕ). let q : Reading = record { output = r.output; taken = j } in q) (sym e)
 
-  pub fill_back : (fs : List ℕ) (xs : List (List ℕ)) (os ns zs : List (Part R)) (rs : List Reading) → AllAre Fills zs os ns → AllMayBe fs xs ns rs → AllMayBe fs xs os rs
+  pub fill_back : (fs : List ShardFiles) (xs : List (List ℕ)) (os ns zs : List (Part R)) (rs : List Reading) → AllAre Fills zs os ns → AllMayBe fs xs ns rs → AllMayBe fs xs os rs
   fill_back [] [] [] [] zs [] k h = tt
   fill_back [] [] [] [] zs (r ∷ rs) k h = absurd h
   fill_back [] [] [] (n ∷ ns) zs rs k h = absurd h
@@ -110,12 +111,12 @@ module _ {R : Type 0} (remaining : R → Option (List ℕ)) (can_fail : R → Ty
       (subst (MayBe f x o) (same_reading r (length x) h.0.taken_is) (may_back f x [] o n r k.0 behind), fill_back fs xs os ns zs rs k.1 h.1)
 
   -- the readings before so much was passed
-  pub record Before (fs : List ℕ) (xs : List (List ℕ)) (os : List (Part R)) (cs : List ℕ) (rs : List Reading) : Type 0 where
+  pub record Before (fs : List ShardFiles) (xs : List (List ℕ)) (os : List (Part R)) (cs : List ℕ) (rs : List Reading) : Type 0 where
     pub was : List Reading
     pub may : AllMayBe fs xs os was
     pub on : taken_on cs was ≡ rs
 
-  pub pass_back : (fs : List ℕ) (xs : List (List ℕ)) (os ns : List (Part R)) (cs : List ℕ) (rs : List Reading) → AreHeld cs os → length xs ≡ length os → AllAre Passes cs os ns → AllMayBe fs (grown xs (fronts cs os)) ns rs → Before fs xs os cs rs
+  pub pass_back : (fs : List ShardFiles) (xs : List (List ℕ)) (os ns : List (Part R)) (cs : List ℕ) (rs : List Reading) → AreHeld cs os → length xs ≡ length os → AllAre Passes cs os ns → AllMayBe fs (grown xs (fronts cs os)) ns rs → Before fs xs os cs rs
   pass_back [] [] [] [] [] [] w e k h = record { was = []; may = tt; on = refl }
   pass_back [] [] [] [] [] (r ∷ rs) w e k h = absurd h
   pass_back [] [] [] [] (c ∷ cs) rs w e k h = absurd w
@@ -140,7 +141,7 @@ module _ {R : Type 0} (remaining : R → Option (List ℕ)) (can_fail : R → Ty
         on = ap (λ (q : Reading). q ∷ taken_on cs rest.was) (same_reading r (length x + c) more) ∙ ap (λ (l : List Reading). r ∷ l) rest.on;
       }
 
-  pub windows_are : (fs : List ℕ) (xs : List (List ℕ)) (qs : List (Part R)) (ws : List Window) (rs : List Reading) → AllMayBe fs xs qs rs → AreWindowsOf qs ws → AreWindows rs ws
+  pub windows_are : (fs : List ShardFiles) (xs : List (List ℕ)) (qs : List (Part R)) (ws : List Window) (rs : List Reading) → AllMayBe fs xs qs rs → AreWindowsOf qs ws → AreWindows rs ws
   windows_are [] [] [] [] [] h k = tt
   windows_are [] [] [] [] (r ∷ rs) h k = absurd h
   windows_are [] [] [] (w ∷ ws) rs h k = absurd k
@@ -182,7 +183,7 @@ module _ {R : Type 0} (remaining : R → Option (List ℕ)) (can_fail : R → Ty
   passed_count (x ∷ xs) (o ∷ os) [] h = absurd h
   passed_count (x ∷ xs) (o ∷ os) (n ∷ ns) h = omega (arith, passed_count xs os ns h.1)
 
-  pub are_fresh : (fs : List ℕ) (qs : List (Part R)) (rs : List Reading) → AllMayBe fs (nothings qs) qs rs → AreFresh fs rs
+  pub are_fresh : (fs : List ShardFiles) (qs : List (Part R)) (rs : List Reading) → AllMayBe fs (nothings qs) qs rs → AreFresh fs rs
   are_fresh [] [] [] h = tt
   are_fresh [] [] (r ∷ rs) h = absurd h
   are_fresh [] (q ∷ qs) rs h = absurd h
@@ -191,7 +192,7 @@ module _ {R : Type 0} (remaining : R → Option (List ℕ)) (can_fail : R → Ty
   are_fresh (f ∷ fs) (q ∷ qs) (r ∷ rs) h = (h.0.files_are, h.0.taken_is, are_fresh fs qs rs h.1)
 
   -- where the merger stands, whatever the parts may be
-  abbrev pub Stands : JobSpec → List ℕ → List (List ℕ) → List (Part R) → Standing → List ℕ → Type 0
+  abbrev pub Stands : JobSpec → List ShardFiles → List (List ℕ) → List (Part R) → Standing → List ℕ → Type 0
   Stands job fs xs qs m out = (rs : List Reading) → AllMayBe fs xs qs rs → IsAfter job rs m × (text_taken job rs ≡ out)
 
   -- a step that adds to nothing adds the same to any text
@@ -208,7 +209,7 @@ module _ {R : Type 0} (remaining : R → Option (List ℕ)) (can_fail : R → Ty
   }
 
   -- it stands so behind a turn
-  pub turn : (job : JobSpec) (fs : List ℕ) (xs : List (List ℕ)) (bs os ns zs : List (Part R)) (cs : List ℕ) (m m' : Standing) (out out' : List ℕ)
+  pub turn : (job : JobSpec) (fs : List ShardFiles) (xs : List (List ℕ)) (bs os ns zs : List (Part R)) (cs : List ℕ) (m m' : Standing) (out out' : List ℕ)
       → AllAre (Moves remaining can_fail) xs bs os → Stands job fs xs os m out → (filled : List (Part R)) → AllAre Fills zs os filled → StepsOver job filled cs m m' out out' → all_done filled ≡ false
       → AllAre Passes cs filled ns → Stands job fs (grown xs (fronts cs filled)) ns m' out'
   turn job fs xs bs os ns zs cs m m' out out' moved stands filled k s more p rs h =
@@ -223,7 +224,7 @@ module _ {R : Type 0} (remaining : R → Option (List ℕ)) (can_fail : R → Ty
       )
 
   -- all is merged at the last
-  pub turned : (job : JobSpec) (fs : List ℕ) (xs : List (List ℕ)) (os zs : List (Part R)) (cs : List ℕ) (m m' : Standing) (out out' : List ℕ)
+  pub turned : (job : JobSpec) (fs : List ShardFiles) (xs : List (List ℕ)) (os zs : List (Part R)) (cs : List ℕ) (m m' : Standing) (out out' : List ℕ)
       → Stands job fs xs os m out → (filled : List (Part R)) → AllAre Fills zs os filled → StepsOver job filled cs m m' out out' → all_done filled ≡ true
       → (rs : List Reading) → AllMayBe fs xs filled rs → IsMerged job (outputs_of rs) out'
   turned job fs xs os zs cs m m' out out' stands filled k s last rs h =
@@ -249,7 +250,7 @@ module _ {R : Type 0} (remaining : R → Option (List ℕ)) (can_fail : R → Ty
       (i, d, m.0, unread_back e (can_fail (get_or os i d).reader) (can_fail (get_or bs i d).reader) (string_bytes (get_or os i d).name) (string_bytes (get_or bs i d).name) m.1.later (ap string_bytes m.1.name) t)
 
   -- what was stepped over is blamed, whatever the parts may be
-  pub blamed_turn : (job : JobSpec) (fs : List ℕ) (xs : List (List ℕ)) (bs os zs : List (Part R)) (m : Standing) (out : List ℕ) (filled : List (Part R)) (e : MergeFault)
+  pub blamed_turn : (job : JobSpec) (fs : List ShardFiles) (xs : List (List ℕ)) (bs os zs : List (Part R)) (m : Standing) (out : List ℕ) (filled : List (Part R)) (e : MergeFault)
       → AllAre (Moves remaining can_fail) xs bs os → Stands job fs xs os m out → AllAre Fills zs os filled → IsBlamedOver job filled m e → AreBlamed remaining can_fail job fs bs filled e
   blamed_turn job fs xs bs os zs m out filled e moved stands k b = record {
     passed = xs;
@@ -268,14 +269,14 @@ module _ {R : Type 0} (remaining : R → Option (List ℕ)) (can_fail : R → Ty
   stopped_step unwritten job os m filled (stop.Merge fault) k b = (k, b)
 
   -- where there is no next turn, the parts are not merged
-  pub stopped_turn : (now first : ShardFault → Type 0) (job : JobSpec) (fs : List ℕ) (xs : List (List ℕ)) (bs os : List (Part R)) (m : Standing) (out : List ℕ) (filled : List (Part R)) (e : Stop)
+  pub stopped_turn : (now first : ShardFault → Type 0) (job : JobSpec) (fs : List ShardFiles) (xs : List (List ℕ)) (bs os : List (Part R)) (m : Standing) (out : List ℕ) (filled : List (Part R)) (e : Stop)
       → ((f : ShardFault) → now f → first f) → AllAre (Moves remaining can_fail) xs bs os → Stands job fs xs os m out → IsTurnFault remaining can_fail now job os filled m e → IsStopped remaining can_fail first job fs bs filled e
   stopped_turn now first job fs xs bs os m out filled (stop.Part fault) back moved stands (inl none) = inl none
   stopped_turn now first job fs xs bs os m out filled (stop.Part fault) back moved stands (inr (inl one)) = inr (inl (one_back xs bs os fault moved one))
   stopped_turn now first job fs xs bs os m out filled (stop.Part fault) back moved stands (inr (inr told)) = inr (inr (back fault told))
   stopped_turn now first job fs xs bs os m out filled (stop.Merge fault) back moved stands (k, b) = blamed_turn job fs xs bs os os m out filled fault moved stands k b
 
-module _ {R : Type 0} (remaining : R → Option (List ℕ)) (can_fail : R → Type 0) (job : JobSpec) (fs : List ℕ) (p : ℕ) (vs : List Told) where
+module _ {R : Type 0} (remaining : R → Option (List ℕ)) (can_fail : R → Type 0) (job : JobSpec) (fs : List ShardFiles) (p : ℕ) (vs : List Told) where
   -- parts that are not merged, for another reason than what they hold, are not joined
   pub refused_turns : (unwritten : ShardFault → Type 0) (os ns : List (Part R)) (e : ShardFault) → IsStopped remaining can_fail unwritten job fs os ns (stop.Part e) → IsRefused remaining can_fail job fs p vs os e ⊎ unwritten e
   refused_turns unwritten os ns e (inl none) = inl (inl none)

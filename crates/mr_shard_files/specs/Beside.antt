@@ -6,11 +6,12 @@ use Rattle.mr_files.specs.Folders.{IsFolderOf}
 use Rattle.mr_files.specs.Holding.{Holding, Stored}
 use Rattle.mr_files.specs.Names.{name_of_part}
 use Rattle.mr_jobs.specs.JobSpec.{JobSpec}
+use Rattle.mr_shards.specs.declared.shift.ShardFiles.{ShardFiles}
 use Rattle.mr_shards.specs.declared.merger.ShardText.{ShardText}
 use Rattle.mr_shards.specs.Merged.{texts}
 use Rattle.mr_shards.specs.Portions.{merged_portions}
 use Rattle.mr_shards.specs.Outputs.{IsOutputOfAll, parts_in}
-use Rattle.mr_shards.specs.Refused.{IsRest}
+use Rattle.mr_shards.specs.Refused.{IsShardText}
 use Rattle.mr_shards.specs.Truth.{IsNoteOf}
 use Rattle.mr_shards.specs.Verdict.{Note, Told}
 
@@ -31,21 +32,29 @@ Tells p [] [] = Unit {0}
 Tells p (v ∷ vs) (t ∷ ts) = ReportsCause p v t × Tells p vs ts
 Tells p _ _ = ⊥
 
--- the texts, each with the number of its shard's files
+-- so many files, none of which goes on
+abbrev pub whole_files : ℕ → ShardFiles
+whole_files count = record { count = count; cut = None }
+
+-- the files of the shard that the verdict is about
+abbrev pub files_told : Told → ShardFiles
+files_told v = whole_files (length v.inputs)
+
+-- the texts, each with its shard's files
 abbrev pub AreOutputs : List Told → List (List ℕ) → List ShardText → Type 0
 AreOutputs [] [] [] = Unit {0}
-AreOutputs (v ∷ vs) (t ∷ ts) (o ∷ os) = (o.files ≡ length v.inputs) × (o.text.now ≡ t) × AreOutputs vs ts os
+AreOutputs (v ∷ vs) (t ∷ ts) (o ∷ os) = (o.files ≡ files_told v) × (o.text.now ≡ t) × AreOutputs vs ts os
 AreOutputs _ _ _ = ⊥
 
 -- the text is merged of what stands beside the verdicts for that partition, each as its verdict tells, and each of lines of
--- the job with keys in turn; and whatever judged shards those are of, it is the output of the sequential execution over all
+-- the job with keys in turn and places in the shard's files; and whatever judged shards those are of, it is the output of the sequential execution over all
 pub record IsPartition (holds : Stored) (job : JobSpec) (names : List (List ℕ)) (vs : List Told) (p : ℕ) (text : List ℕ) : Type 0 where
   pub parts : List (List ℕ)
   pub outputs : List ShardText
   pub stand : Holding (StandsBeside holds p) names parts
   pub told : Tells p vs parts
   pub outputs_are : AreOutputs vs parts outputs
-  pub lines : AllByRecursion (λ o. IsRest job None o.text.now) outputs
+  pub lines : AllByRecursion (IsShardText job) outputs
   pub merged : text ≡ texts job (merged_portions (parts_in job outputs))
   pub whole : IsOutputOfAll job outputs text
 

@@ -8,14 +8,14 @@ use Rattle.mr_files.specs.Names.{merged_names, name_of_part, name_of_verdict, pa
 use Rattle.mr_jobs.specs.JobSpec.{JobSpec, RequestSpec}
 use Rattle.mr_shards.specs.declared.merger.MergeFault.TheVariants as merge
 use Rattle.mr_shards.specs.declared.merger.ShardText.{ShardText}
-use Rattle.mr_shards.specs.Refused.{Blames, HasFarLine}
+use Rattle.mr_shards.specs.Refused.{Blames}
 use Rattle.mr_shards.specs.declared.joining.JoinFault.TheVariants as join
 use Rattle.mr_shards.specs.Joined.{IsJoinFault, IsJoined, IsRepeated, inputs_of, verdict_at}
 use Rattle.mr_shards.specs.Reading.{Fits}
 use Rattle.mr_shards.specs.Truth.{Asks, AsksNone}
 use Rattle.mr_shards.specs.Verdict.{Note, Told, spelling}
 use Rattle.mr_shard_files.specs.declared.fault.ShardFault.{ShardFault}
-use Rattle.mr_shard_files.specs.declared.fault.ShardFault.TheVariants.{BadLine, BadVerdict, CannotRead, FileTooFar, LongList, LongVerdict, NoRequest, NoShards, OtherInputs, OtherOutputs, OtherPart, OtherRequest, OutOfMemory, RepeatedInput, TooManyFiles, TooManyPairs, TooManySplits, TotalTooLarge}
+use Rattle.mr_shard_files.specs.declared.fault.ShardFault.TheVariants.{BadLine, BadVerdict, CannotRead, LongList, LongVerdict, NoRequest, NoShards, NoSuchFile, OtherInputs, OtherOutputs, OtherPart, OtherRequest, OutOfMemory, PlaceTooFar, RepeatedInput, TooManyFiles, TooManyPairs, TooManySplits, TotalTooLarge}
 use Rattle.mr_shard_files.specs.Apart.{AreApart, IsSameFolder}
 use Rattle.mr_shard_files.specs.Beside.{AreOutputs, ArePartitions, StandsBeside, Tells, ReportsCause}
 use Rattle.mr_shard_files.specs.Listing.{DifferIn, IsListed, listing}
@@ -105,7 +105,8 @@ AreUnopened holds unreadable count names vs fault = (fault ≡ OutOfMemory) ⊎ 
 abbrev pub IsBlamed : JobSpec → List ShardText → ℕ → ShardFault → Type 0
 IsBlamed job os p (BadLine shard partition line) = (partition ≡ p) × Blames job os (merge.BadLine shard line)
 IsBlamed job os p (TotalTooLarge partition) = (partition ≡ p) × Blames job os merge.TotalTooLarge
-IsBlamed job os p (FileTooFar partition) = (partition ≡ p) × HasFarLine job os
+IsBlamed job os p (NoSuchFile shard partition) = (partition ≡ p) × Blames job os (merge.NoSuchFile shard)
+IsBlamed job os p (PlaceTooFar partition) = (partition ≡ p) × Blames job os merge.PlaceTooFar
 IsBlamed job os p OutOfMemory = ⊤
 IsBlamed job os p fault = ⊥
 

@@ -8,6 +8,7 @@ use Rattle.mr_files.specs.Folders.{IsFolderOf}
 use Rattle.mr_files.specs.Holding.{Agrees, Faulty, Stored}
 use Rattle.mr_files.specs.Names.{name_of_part}
 use Rattle.mr_jobs.specs.JobSpec.{JobSpec}
+use Rattle.mr_shards.specs.declared.shift.ShardFiles.{ShardFiles}
 use Rattle.mr_shards.specs.declared.merger.MergeFault.{MergeFault}
 use Rattle.mr_shards.specs.declared.merger.MergeFault.TheVariants as merge
 use Rattle.mr_shards.specs.declared.window.Window.{Window}
@@ -181,26 +182,26 @@ all_done [] = true
 all_done (q ∷ qs) = is_done q && all_done qs
 
 -- an output may be the whole of the part, of which these bytes were passed
-pub record MayBe {R : Type 0} (files : ℕ) (passed : List ℕ) (part : Part R) (r : Reading) : Type 0 where
+pub record MayBe {R : Type 0} (files : ShardFiles) (passed : List ℕ) (part : Part R) (r : Reading) : Type 0 where
   pub files_are : r.output.files ≡ files
   pub taken_is : r.taken ≡ length passed
   pub more : List ℕ
   pub text_is : r.output.text.now ≡ passed ++ (part.held ++ more)
   pub none_more : is_done part ≡ true → more ≡ []
 
-abbrev pub AllMayBe : {R : Type 0} → List ℕ → List (List ℕ) → List (Part R) → List Reading → Type 0
+abbrev pub AllMayBe : {R : Type 0} → List ShardFiles → List (List ℕ) → List (Part R) → List Reading → Type 0
 AllMayBe [] [] [] [] = Unit {0}
 AllMayBe (f ∷ fs) (x ∷ xs) (q ∷ qs) (r ∷ rs) = MayBe f x q r × AllMayBe fs xs qs rs
 AllMayBe _ _ _ _ = ⊥
 
 -- the text is merged of whatever the parts may be
-pub record AreMergedTo {R : Type 0} (remaining : R → Option (List ℕ)) (can_fail : R → Type 0) (job : JobSpec) (files : List ℕ) (old new : List (Part R)) (text : List ℕ) : Type 0 where
+pub record AreMergedTo {R : Type 0} (remaining : R → Option (List ℕ)) (can_fail : R → Type 0) (job : JobSpec) (files : List ShardFiles) (old new : List (Part R)) (text : List ℕ) : Type 0 where
   pub passed : List (List ℕ)
   pub moved : AllAre (Moves remaining can_fail) passed old new
   pub merged : (rs : List Reading) → AllMayBe files passed new rs → IsMerged job (outputs_of rs) text
 
 -- whatever the parts may be, they can't be merged
-pub record AreBlamed {R : Type 0} (remaining : R → Option (List ℕ)) (can_fail : R → Type 0) (job : JobSpec) (files : List ℕ) (old new : List (Part R)) (fault : MergeFault) : Type 0 where
+pub record AreBlamed {R : Type 0} (remaining : R → Option (List ℕ)) (can_fail : R → Type 0) (job : JobSpec) (files : List ShardFiles) (old new : List (Part R)) (fault : MergeFault) : Type 0 where
   pub passed : List (List ℕ)
   pub moved : AllAre (Moves remaining can_fail) passed old new
   pub blamed : (rs : List Reading) → AllMayBe files passed new rs → Blames job (outputs_of rs) fault
@@ -255,20 +256,20 @@ pub record AreAllBeside (first : Result (Vec Sha256 Global) AllocError) (beside 
   pub digests : all.digests.items ≡ front.items ++ back.digests.items
 
 -- parts are not merged as they are read, or what they are merged to is not written
-abbrev pub IsStopped : {R : Type 0} → (R → Option (List ℕ)) → (R → Type 0) → (ShardFault → Type 0) → JobSpec → List ℕ → List (Part R) → List (Part R) → Stop → Type 0
+abbrev pub IsStopped : {R : Type 0} → (R → Option (List ℕ)) → (R → Type 0) → (ShardFault → Type 0) → JobSpec → List ShardFiles → List (Part R) → List (Part R) → Stop → Type 0
 IsStopped remaining can_fail unwritten job files old new (stop.Part fault) =
     (fault ≡ OutOfMemory) ⊎ (OneIs (λ _ q. ReportsUnread (can_fail q.reader) (string_bytes q.name) fault) old ⊎ unwritten fault)
 IsStopped remaining can_fail unwritten job files old new (stop.Merge fault) = AreBlamed remaining can_fail job files old new fault
 
 -- the parts were merged to the text, and each is the one that its verdict tells of
-pub record AreJoined {R : Type 0} (remaining : R → Option (List ℕ)) (can_fail : R → Type 0) (job : JobSpec) (files : List ℕ) (p : ℕ) (vs : List Told) (old : List (Part R)) (text : List ℕ) : Type 0 where
+pub record AreJoined {R : Type 0} (remaining : R → Option (List ℕ)) (can_fail : R → Type 0) (job : JobSpec) (files : List ShardFiles) (p : ℕ) (vs : List Told) (old : List (Part R)) (text : List ℕ) : Type 0 where
   pub mid : List (Part R)
   pub new : List (Part R)
   pub merged : AreMergedTo remaining can_fail job files old mid text
   pub settled : AllAre (IsSettled remaining can_fail p) vs mid new
 
 -- each is, and they can't be merged
-pub record AreUnjoined {R : Type 0} (remaining : R → Option (List ℕ)) (can_fail : R → Type 0) (job : JobSpec) (files : List ℕ) (p : ℕ) (vs : List Told) (old : List (Part R)) (fault : ShardFault) : Type 0 where
+pub record AreUnjoined {R : Type 0} (remaining : R → Option (List ℕ)) (can_fail : R → Type 0) (job : JobSpec) (files : List ShardFiles) (p : ℕ) (vs : List Told) (old : List (Part R)) (fault : ShardFault) : Type 0 where
   pub mid : List (Part R)
   pub new : List (Part R)
   pub cause : MergeFault
@@ -284,6 +285,6 @@ pub record IsOneUnsettled {R : Type 0} (remaining : R → Option (List ℕ)) (ca
   pub why : AreUnsettled remaining can_fail p vs mid fault
 
 -- why parts are not joined
-abbrev pub IsRefused : {R : Type 0} → (R → Option (List ℕ)) → (R → Type 0) → JobSpec → List ℕ → ℕ → List Told → List (Part R) → ShardFault → Type 0
+abbrev pub IsRefused : {R : Type 0} → (R → Option (List ℕ)) → (R → Type 0) → JobSpec → List ShardFiles → ℕ → List Told → List (Part R) → ShardFault → Type 0
 IsRefused remaining can_fail job files p vs old fault = (fault ≡ OutOfMemory) ⊎ (OneIs (λ _ q. ReportsUnread (can_fail q.reader) (string_bytes q.name) fault) old
     ⊎ (IsOneUnsettled remaining can_fail p vs old fault ⊎ AreUnjoined remaining can_fail job files p vs old fault))

@@ -9,7 +9,7 @@ use Rattle.mr_shards.specs.declared.verdict.VerdictFault.TheVariants as text
 use Rattle.mr_shards.specs.declared.joining.JoinFault.{JoinFault}
 use Rattle.mr_shards.specs.declared.joining.JoinFault.TheVariants as join
 use Rattle.mr_shard_files.specs.declared.fault.ShardFault.{ShardFault}
-use Rattle.mr_shard_files.specs.declared.fault.ShardFault.TheVariants.{BadLine, BadVerdict, CannotRead, CannotWrite, FileTooFar, OtherRequest, OutOfMemory, TooManyPairs, TooManySplits, TotalTooLarge}
+use Rattle.mr_shard_files.specs.declared.fault.ShardFault.TheVariants.{BadLine, BadVerdict, CannotRead, CannotWrite, NoSuchFile, OtherRequest, OutOfMemory, PlaceTooFar, TooManyFiles, TooManyPairs, TooManySplits, TotalTooLarge}
 
 abbrev pub told_of_file : FileFault → ShardFault
 told_of_file (file.CannotRead name) = CannotRead name
@@ -31,5 +31,7 @@ told_of_verdict shard text.OutOfMemory = OutOfMemory
 abbrev pub told_of_merge : ℕ → MergeFault → ShardFault
 told_of_merge partition (merge.BadLine shard line) = BadLine shard partition line
 told_of_merge partition merge.TotalTooLarge = TotalTooLarge partition
-told_of_merge partition merge.TooManyFiles = FileTooFar partition
+told_of_merge partition merge.TooManyFiles = TooManyFiles
+told_of_merge partition (merge.NoSuchFile shard) = NoSuchFile shard partition
+told_of_merge partition merge.PlaceTooFar = PlaceTooFar partition
 told_of_merge partition merge.OutOfMemory = OutOfMemory

@@ -87,9 +87,15 @@ pub enum ShardFault {
     OtherOutputs {
         shard: usize,
     },
-    /// A place in the partition would have a file number that doesn't fit in 32 bits.
-    #[error("FileTooFar partition {partition}")]
-    FileTooFar {
+    /// A line of the part tells a file that the shard doesn't have.
+    #[error("NoSuchFile shard {shard} partition {partition}")]
+    NoSuchFile {
+        shard: usize,
+        partition: usize,
+    },
+    /// A moved offset in the partition doesn't fit in 64 bits.
+    #[error("PlaceTooFar partition {partition}")]
+    PlaceTooFar {
         partition: usize,
     },
     #[error("cannot read {0}")]
@@ -158,7 +164,9 @@ pub(crate) fn of_merge(partition: usize, fault: MergeFault) -> ShardFault
             line,
         },
         MergeFault::TotalTooLarge => ShardFault::TotalTooLarge { partition },
-        MergeFault::TooManyFiles => ShardFault::FileTooFar { partition },
+        MergeFault::TooManyFiles => ShardFault::TooManyFiles,
+        MergeFault::NoSuchFile { shard } => ShardFault::NoSuchFile { shard, partition },
+        MergeFault::PlaceTooFar => ShardFault::PlaceTooFar { partition },
         MergeFault::OutOfMemory => ShardFault::OutOfMemory,
     }
 }

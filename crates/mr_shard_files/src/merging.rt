@@ -8,6 +8,7 @@ ghost use Rattle.mr_shards.specs.Verdict.{spelling};
 ghost use Rattle.mr_shard_files.specs.Merging.{AreCounted, ChangesResult, IsJoinedOnce, IsMerged};
 ghost use Rattle.mr_shard_files.specs.Merging.{IsReady, with_outputs as with_notes};
 ghost use Rattle.mr_shard_files.specs.Apart.{AreApart};
+ghost use Rattle.mr_shard_files.specs.Beside.{files_told, whole_files as whole_ones};
 ghost use Rattle.mr_shard_files.specs.Listing.{IsListed};
 ghost use Rattle.mr_shard_files.specs.Sharing.{AreUnshared};
 ghost use Rattle.mr_shard_files.specs.Faults.{IsFirstFault, IsInputsFault, IsJoinedFault};
@@ -23,7 +24,7 @@ use crate::sharing::{expect_apart, expect_unshared, save_verdict};
 use crate::stream::{Part, fault_of};
 use mr_files::{Store, folder_of, part_name};
 use mr_jobs::Request;
-use mr_shards::{FileNote, Verdict, first_repeat, join_verdicts, request_of};
+use mr_shards::{FileNote, ShardFiles, Verdict, first_repeat, join_verdicts, request_of};
 use mr_store::ReadFault;
 use std::alloc::{AllocError, Global};
 use std::thread::Threads;
@@ -279,16 +280,26 @@ pub(crate) fn open_all<S: Store>(
     Ok(rows)
 }
 
-/// How many files each shard has. All together fit in 32 bits.
-pub(crate) fn file_counts(alloc: Global, verdicts: &[Verdict]) -> Result<Vec<u32>, AllocError>
-    requires { length (inputs_of verdicts.now) < 2 ^ 32 }
-    ensures { IfOk result (λ fs. fs.items ≡ map (λ v. length v.inputs) verdicts.now) }
+/// So many files, none of which goes on.
+fn whole_files(count: u32) -> ShardFiles
+    ensures { result ≡ whole_ones count }
 {
-    let mut counts = Vec::new(alloc);
+    ShardFiles { count, cut: None }
+}
+
+/// The files of each shard. All together fit in 32 bits.
+pub(crate) fn shard_files(
+    alloc: Global,
+    verdicts: &[Verdict],
+) -> Result<Vec<ShardFiles>, AllocError>
+    requires { length (inputs_of verdicts.now) < 2 ^ 32 }
+    ensures { IfOk result (λ fs. fs.items ≡ map files_told verdicts.now) }
+{
+    let mut all = Vec::new(alloc);
     for shard in 0..verdicts.len() {
         let verdict = &verdicts[shard];
-        let files = verdict.inputs.len() as u32;
-        counts.push(files).map_err(AllocError::from)?;
+        let files = whole_files(verdict.inputs.len() as u32);
+        all.push(files).map_err(AllocError::from)?;
     }
-    Ok(counts)
+    Ok(all)
 }

@@ -14,13 +14,13 @@ ghost use Rattle.mr_shard_files.specs.Streams.{AreJoined, IsRefused};
 ghost use Rattle.mr_input.specs.Files.{contents};
 
 use crate::fault::ShardFault;
-use crate::merging::{file_counts, open_all};
+use crate::merging::{open_all, shard_files};
 use crate::sharing::put_verdict;
 use crate::stream::Part;
 use crate::turns::joined;
 use mr_files::{Store, WriteFault, part_file, part_name};
 use mr_jobs::{Job, Request};
-use mr_shards::{FileNote, Verdict, note_for};
+use mr_shards::{FileNote, ShardFiles, Verdict, note_for};
 use mr_store::{CountedRead, CountedWrite, write_all};
 use sha2::{Digest, Sha256};
 use std::alloc::{AllocError, Global};
@@ -55,7 +55,7 @@ fn part_filled<R: CountedRead + Drop, W: CountedWrite + Drop, T: Threads>(
     rt: &T,
     alloc: Global,
     job: &Job,
-    files: &[u32],
+    files: &[ShardFiles],
     parts: &mut [Part<R>],
     verdicts: &[Verdict],
     partition: usize,
@@ -84,7 +84,7 @@ fn part_written<S: Store, T: Threads>(
     store: &mut S,
     alloc: Global,
     job: &Job,
-    files: &[u32],
+    files: &[ShardFiles],
     parts: &mut [Part<S::Reader>],
     verdicts: &[Verdict],
     partition: usize,
@@ -134,7 +134,7 @@ pub(crate) fn partitions_written<S: Store, T: Threads>(
         (S.unreadable store.old) (S.unwritable store.old)
         request.now (map (λ s. s.now) names.now) verdicts.now dir.now) }
 {
-    let files = file_counts(alloc, verdicts)?;
+    let files = shard_files(alloc, verdicts)?;
     let count = request.parts() as usize;
     let mut rows = open_all(store, alloc, names, verdicts, count)?;
     put_verdict(store, alloc, dir, b"")?;

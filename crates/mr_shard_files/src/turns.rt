@@ -16,7 +16,7 @@ use crate::stream::Part;
 use crate::streams::{are_done, fill_all, pass_all, settle_all, share_of, windows_of};
 use crate::tails::{all_taken, keep_all, middle_of, tails_of, taken_of_both};
 use mr_jobs::Job;
-use mr_shards::{MergeFault, Merger, Verdict};
+use mr_shards::{MergeFault, Merger, ShardFiles, Verdict};
 use mr_store::{CountedRead, CountedWrite};
 use sha2::Sha256;
 use std::alloc::{AllocError, Global};
@@ -252,7 +252,7 @@ pub(crate) fn merged_in_turns<R: CountedRead + Drop, W: CountedWrite + Drop, T: 
     rt: &T,
     alloc: Global,
     job: &Job,
-    files: &[u32],
+    files: &[ShardFiles],
     parts: &mut [Part<R>],
     made: &mut Made<W>,
 ) -> Result<(), Stop>
@@ -292,7 +292,7 @@ pub(crate) fn joined<R: CountedRead + Drop, W: CountedWrite + Drop, T: Threads>(
     rt: &T,
     alloc: Global,
     job: &Job,
-    files: &[u32],
+    files: &[ShardFiles],
     parts: &mut [Part<R>],
     verdicts: &[Verdict],
     partition: usize,

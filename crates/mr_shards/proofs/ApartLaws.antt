@@ -9,7 +9,7 @@ use Rattle.mr_shards.specs.Pieces.{Bound, IsBefore, PartsNoKey, next_bound}
 use Rattle.mr_shards.proofs.MergedLaws.{keys}
 use Rattle.mr_shards.proofs.StepLemmas.{all-map}
 use Rattle.mr_shards.proofs.PlaceLemmas.{apart, follows, strict, strict-before}
-use Rattle.mr_shards.specs.Portions.{past_files, shifted_group}
+use Rattle.mr_shards.specs.Portions.{Shift, shifted_group}
 use Rattle.mr_shards.proofs.WovenLaws.{Precedes, with_line, with-behind, with-front, woven, woven-all, woven-append}
 
 abbrev pub Low : Option Bound → List Group → Type 0
@@ -43,9 +43,9 @@ module _ (job : JobSpec) (b : Option Bound) (together : counts job ≡ true → 
       woven-append (counts job) gs hs (xs ++ ys) ∙ ap (woven (counts job) gs) (woven-behind hs xs ys lx hh)
       ∙ woven-front gs xs (woven (counts job) hs ys) lg (woven-all (counts job) (λ k. IsBefore (strict b) k → ⊥) hs ys (high-strict b hs hh) hy)
 
-pub all-moved : (P : List ℕ → Type 0) (n : ℕ) (gs : List Group) → AllByRecursion P (keys gs) → AllByRecursion P (keys (map (shifted_group (past_files n)) gs))
-all-moved P n [] all = tt
-all-moved P n (g ∷ gs) all = (all.0, all-moved P n gs all.1)
+pub all-moved : (P : List ℕ → Type 0) (s : Shift) (gs : List Group) → AllByRecursion P (keys gs) → AllByRecursion P (keys (map (shifted_group s) gs))
+all-moved P s [] all = tt
+all-moved P s (g ∷ gs) all = (all.0, all-moved P s gs all.1)
 
 pub all-keys : (P : List ℕ → Type 0) (gs : List Group) → AllByRecursion (λ (g : Group). P g.key) gs → AllByRecursion P (keys gs)
 all-keys P [] all = tt

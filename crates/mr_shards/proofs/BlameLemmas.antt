@@ -1,6 +1,7 @@
 -- What is blamed in a piece is to blame in the whole output.
 use Rattle.std.proofs.Common.{◌⊎◌, ◌≡◌, ℕ, zero, suc, ◌+◌, ◌≤◌, ◌%◌, ◌^◌, ◌++◌, List, [], ◌∷◌, length, take, drop, get_or, refl, ap, sym, ◌∙◌, subst, inl, inr, true, map, arith, append_assoc, Option, None, Some, sum}
 use Rattle.std.proofs.lemmas.List.{append-nil, length-append, take-map}
+use Rattle.std.proofs.lemmas.Simd.{map-map}
 use Rattle.std.proofs.lemmas.List.Sums.{sum-map}
 use Rattle.std.proofs.Math.Nat.{add-mod-mod, mod-add-mod}
 use Rattle.std.specs.List.{AllByRecursion}
@@ -9,17 +10,19 @@ use Rattle.mr_jobs.specs.JobSpec.{JobSpec}
 use Rattle.mr_jobs.specs.Url.{before_byte}
 use Rattle.mr_sequential.proofs.SourceLemmas.{flat_map-append}
 use Rattle.mr_shards.specs.declared.merger.MergeFault.{MergeFault}
-use Rattle.mr_shards.specs.declared.merger.MergeFault.TheVariants.{BadLine, TotalTooLarge, TooManyFiles, OutOfMemory}
+use Rattle.mr_shards.specs.declared.merger.MergeFault.TheVariants.{BadLine, TotalTooLarge, TooManyFiles, NoSuchFile, PlaceTooFar, OutOfMemory}
+use Rattle.mr_shards.specs.declared.shift.ShardFiles.{ShardFiles}
 use Rattle.mr_shards.specs.declared.merger.ShardText.{ShardText}
 use Rattle.mr_shards.specs.declared.window.Held.{Held}
 use Rattle.mr_shards.specs.declared.window.Window.{Window}
 use Rattle.mr_shards.specs.Merged.{Group, group_text, texts}
 use Rattle.mr_shards.specs.Lines.{group_in, groups_in}
-use Rattle.mr_shards.specs.Refused.{Blames, IsBadLine, IsFarLine, IsLineOf, MayFollow, NoLineFollows, files_in, last_of, text_at, total_of, values_with}
-use Rattle.mr_shards.specs.Pieces.{AreBlamed, AreTaken, AreWindows, AreWithin, BeginsBehind, Bound, IsBefore, next_bound, IsTaken, Reading, behind, fresh, front, numbered, outputs_of, pieces_of, told}
+use Rattle.mr_shards.specs.Refused.{Blames, HasBadPlace, IsBadLine, IsBadPlace, IsLineOf, MayFollow, NoLineFollows, TellsPlace, count_at, files_in, last_of, shift_before, shift_from, text_at, total_of, values_with}
+use Rattle.mr_shards.specs.Portions.{Shift, behind as shifted_behind, no_shift, past_shard}
+use Rattle.mr_shards.specs.Pieces.{AreBlamed, AreTaken, AreWindows, AreWithin, BeginsBehind, Bound, IsBefore, next_bound, IsTaken, Reading, behind, fresh, front, no_files, numbered, outputs_of, pieces_of, told}
 use Rattle.mr_shards.proofs.LineLemmas.{begun}
 use Rattle.mr_shards.proofs.ReadingLemmas.{before-first, lines-none}
-use Rattle.mr_shards.proofs.RefusedLemmas.{bad-text, far-behind, front-text, lines-join}
+use Rattle.mr_shards.proofs.RefusedLemmas.{bad-text, front-text, lines-join, place-behind}
 use Rattle.mr_shards.proofs.TotalLemmas.{among-cons}
 use Rattle.mr_shards.proofs.CutLemmas.{IsWhole, first-line, groups-join}
 use Rattle.mr_shards.proofs.WindowLemmas.{some-line}
@@ -130,9 +133,9 @@ module _ (job : JobSpec) (b : Option Bound) (h : Held) (r : Reading) (piece more
       no-front [] ys e = refl
       no-front (x ∷ xs) ys e = absurd (cc e)
 
-  far-on : (files : ℕ) → IsFarLine job piece files → IsFarLine job r.output.text.now files
-  far-on files f =
-      far-behind job r.output.text.now (piece ++ more) files t.stands.groups (text_is ∙ ap (λ (l : List ℕ). l ++ (piece ++ more)) t.stands.text_is) t.stands.lines
+  place-on : (is_so : ℕ → ℕ → Type 0) → TellsPlace job piece is_so → TellsPlace job r.output.text.now is_so
+  place-on is_so f =
+      place-behind job r.output.text.now (piece ++ more) is_so t.stands.groups (text_is ∙ ap (λ (l : List ℕ). l ++ (piece ++ more)) t.stands.text_is) t.stands.lines
       (record {
         before = f.before;
         line = f.line;
@@ -144,7 +147,7 @@ module _ (job : JobSpec) (b : Option Bound) (h : Held) (r : Reading) (piece more
         lines = f.lines;
         is_line = f.is_line;
         place = f.place;
-        far = f.far;
+        so = f.so;
       })
 
   groups-all : groups_in job r.output.text.now ≡ groups_in job (front r) ++ (groups_in job piece ++ groups_in job more)
@@ -168,8 +171,8 @@ bad-empty job line bad = by (texts job bad.before.groups) bad.rest bad.before.te
     by [] rest e some = some (sym e)
     by (x ∷ xs) rest e some = absurd (cc e)
 
-far-empty : (job : JobSpec) (files : ℕ) → IsFarLine job [] files → ⊥
-far-empty job files f =
+place-empty : (job : JobSpec) (is_so : ℕ → ℕ → Type 0) → TellsPlace job [] is_so → ⊥
+place-empty job is_so f =
     by (texts job f.before) (f.line.key ++ 9 ∷ f.is_line.told) f.rest
     (f.text_is ∙ ap (λ (l : List ℕ). texts job f.before ++ l) (front-text job f.line f.is_line f.rest))
   where
@@ -179,28 +182,28 @@ far-empty job files f =
     by (x ∷ xs) ys zs e = absurd (cc e)
 
 -- what is blamed in the pieces is to blame in the outputs
-pub record AreWorse (job : JobSpec) (hs : List Held) (rs : List Reading) (os : List ShardText) : Type 0 where
-  pub bad : (i line : ℕ) → IsBadLine job (text_at os i) line → IsBadLine job (text_at (outputs_of rs) i) (((get_or hs i (fresh 0)).lines + line) % 2 ^ 64)
-  pub far : (i files : ℕ) → IsFarLine job (text_at os i) files → IsFarLine job (text_at (outputs_of rs) i) files
+pub record AreWorse (job : JobSpec) (hs : List Held) (rs : List Reading) (os : List ShardText) : Type 1 where
+  pub bad : (i line : ℕ) → IsBadLine job (text_at os i) line → IsBadLine job (text_at (outputs_of rs) i) (((get_or hs i (fresh no_files)).lines + line) % 2 ^ 64)
+  pub place : (i : ℕ) (is_so : ℕ → ℕ → Type 0) → TellsPlace job (text_at os i) is_so → TellsPlace job (text_at (outputs_of rs) i) is_so
   pub few : (key : List ℕ) → total_of job os key ≤ total_of job (outputs_of rs) key
   pub files : map (λ (o : ShardText). o.files) os ≡ map (λ (o : ShardText). o.files) (outputs_of rs)
 
 worse-none : (job : JobSpec) → AreWorse job [] [] []
 worse-none job = record {
   bad = λ i line b. absurd (bad-empty job line b);
-  far = λ i files f. absurd (far-empty job files f);
+  place = λ i is_so f. absurd (place-empty job is_so f);
   few = λ key. omega arith;
   files = refl;
 }
 
 worse-more : (job : JobSpec) (h : Held) (r : Reading) (o : ShardText) (hs : List Held) (rs : List Reading) (os : List ShardText)
     → ((line : ℕ) → IsBadLine job o.text.now line → IsBadLine job r.output.text.now ((h.lines + line) % 2 ^ 64))
-    → ((files : ℕ) → IsFarLine job o.text.now files → IsFarLine job r.output.text.now files)
+    → ((is_so : ℕ → ℕ → Type 0) → TellsPlace job o.text.now is_so → TellsPlace job r.output.text.now is_so)
     → ((key : List ℕ) → values_with key (groups_in job o.text.now) ≤ values_with key (groups_in job r.output.text.now))
     → o.files ≡ r.output.files → AreWorse job hs rs os → AreWorse job (h ∷ hs) (r ∷ rs) (o ∷ os)
-worse-more job h r o hs rs os bad far few files w = record {
+worse-more job h r o hs rs os bad place few files w = record {
   bad = bad-at;
-  far = far-at;
+  place = place-at;
   few = λ key.
       omega (
         arith,
@@ -213,13 +216,13 @@ worse-more job h r o hs rs os bad far few files w = record {
 }
   where
     bad-at : (i line : ℕ) → IsBadLine job (text_at (o ∷ os) i) line
-        → IsBadLine job (text_at (outputs_of (r ∷ rs)) i) (((get_or (h ∷ hs) i (fresh 0)).lines + line) % 2 ^ 64)
+        → IsBadLine job (text_at (outputs_of (r ∷ rs)) i) (((get_or (h ∷ hs) i (fresh no_files)).lines + line) % 2 ^ 64)
     bad-at zero line b = bad line b
     bad-at (suc i) line b = w.bad i line b
 
-    far-at : (i n : ℕ) → IsFarLine job (text_at (o ∷ os) i) n → IsFarLine job (text_at (outputs_of (r ∷ rs)) i) n
-    far-at zero n f = far n f
-    far-at (suc i) n f = w.far i n f
+    place-at : (i : ℕ) (is_so : ℕ → ℕ → Type 0) → TellsPlace job (text_at (o ∷ os) i) is_so → TellsPlace job (text_at (outputs_of (r ∷ rs)) i) is_so
+    place-at zero is_so f = place is_so f
+    place-at (suc i) is_so f = w.place i is_so f
 
 -- the cut closes the piece, whatever comes behind the window
 abbrev pub Closes : ℕ → Window → Type 0
@@ -252,28 +255,59 @@ module _ (job : JobSpec) where
       let closed : IsClosed o.text.now behind-it = subst (λ (l : List ℕ). IsClosed l behind-it) (sym (piece-text h w c o piece)) (all.0 v.0.more v.0.none_more) in
       worse-more job h r o hs rs os
       (bad-on job b h r o.text.now behind-it t.0 is text closed)
-      (far-on job b h r o.text.now behind-it t.0 is text closed)
+      (place-on job b h r o.text.now behind-it t.0 is text closed)
       (few-on job b h r o.text.now behind-it t.0 is text closed)
-      (ap (λ (p : ℕ × List ℕ). p.0) piece ∙ t.0.files)
+      (ap (λ (p : ShardFiles × List ℕ). p.0) piece ∙ t.0.files)
       (worse (next_bound b) hs rs ws cs os t.1 v.1 fits.1 all.1 more)
 
-files-same : (xs ys : List ShardText) → map (λ (o : ShardText). o.files) xs ≡ map (λ (o : ShardText). o.files) ys → files_in xs ≡ files_in ys
-files-same xs ys e = sym (sum-map (λ (o : ShardText). o.files) xs) ∙ ap sum e ∙ sum-map (λ (o : ShardText). o.files) ys
+-- outputs of shards with the same files
+module _ (xs ys : List ShardText) (e : map (λ (o : ShardText). o.files) xs ≡ map (λ (o : ShardText). o.files) ys) where
+  files-same : {X : Type 0} (f : ShardFiles → X) → map (λ (o : ShardText). f o.files) xs ≡ map (λ (o : ShardText). f o.files) ys
+  files-same {X} f = sym (map-map f (λ (o : ShardText). o.files) xs) ∙ ap (map f) e ∙ map-map f (λ (o : ShardText). o.files) ys
 
-files-front : (i : ℕ) (xs ys : List ShardText) → map (λ (o : ShardText). o.files) xs ≡ map (λ (o : ShardText). o.files) ys → files_in (take i xs) ≡ files_in (take i ys)
-files-front i xs ys e =
-    files-same (take i xs) (take i ys)
+  count-same : files_in xs ≡ files_in ys
+  count-same =
+      sym (sum-map (λ (o : ShardText). (past_shard o.files).files) xs) ∙ ap sum (files-same (λ (f : ShardFiles). (past_shard f).files))
+      ∙ sum-map (λ (o : ShardText). (past_shard o.files).files) ys
+
+shift-same : (s : Shift) (xs ys : List ShardText) → map (λ (o : ShardText). o.files) xs ≡ map (λ (o : ShardText). o.files) ys → shift_from s xs ≡ shift_from s ys
+shift-same s [] [] e = refl
+shift-same s [] (y ∷ ys) e = absurd (cc e)
+shift-same s (x ∷ xs) [] e = absurd (cc e)
+shift-same s (x ∷ xs) (y ∷ ys) e =
+    let files : (o : ShardText) → ShardFiles = λ o. o.files in
+    ap (λ (f : ShardFiles). shift_from (shifted_behind s (past_shard f)) xs) (first-of x.files y.files (map files xs) (map files ys) e)
+    ∙ shift-same (shifted_behind s (past_shard y.files)) xs ys (rest-of x.files y.files (map files xs) (map files ys) e)
+
+before-same : (i : ℕ) (xs ys : List ShardText) → map (λ (o : ShardText). o.files) xs ≡ map (λ (o : ShardText). o.files) ys → shift_before xs i ≡ shift_before ys i
+before-same i xs ys e =
+    shift-same no_shift (take i xs) (take i ys)
     (sym (take-map (λ (o : ShardText). o.files) i xs) ∙ ap (take i) e ∙ take-map (λ (o : ShardText). o.files) i ys)
+
+place-fault : (job : JobSpec) (hs : List Held) (rs : List Reading) (os : List ShardText) (e : MergeFault) → AreWorse job hs rs os → HasBadPlace job os e
+    → HasBadPlace job (outputs_of rs) e
+place-fault job hs rs os e w bad =
+    let i : ℕ = bad.0 in
+    let text : List ℕ = text_at (outputs_of rs) i in
+    let count : count_at os i ≡ count_at (outputs_of rs) i =
+    ap (λ ns. get_or ns i 0) (files-same os (outputs_of rs) w.files (λ (f : ShardFiles). f.count)) in (
+      i,
+      subst (λ (s : Shift). TellsPlace job text (IsBadPlace i (count_at (outputs_of rs) i) s e)) (before-same i os (outputs_of rs) w.files)
+          (subst (λ n. TellsPlace job text (IsBadPlace i n (shift_before os i) e)) count
+          (w.place i (IsBadPlace i (count_at os i) (shift_before os i) e) bad.1)),
+    )
 
 blames-fault : (job : JobSpec) (hs : List Held) (rs : List Reading) (os : List ShardText) (e : MergeFault) → AreWorse job hs rs os → Blames job os e
     → Blames job (outputs_of rs) (numbered hs e)
 blames-fault job hs rs os (BadLine shard line) w b =
     let bad = w.bad shard line b.0 in
-    (bad, bad-text job (text_at (outputs_of rs) shard) (((get_or hs shard (fresh 0)).lines + line) % 2 ^ 64) bad)
+    (bad, bad-text job (text_at (outputs_of rs) shard) (((get_or hs shard (fresh no_files)).lines + line) % 2 ^ 64) bad)
 blames-fault job hs rs os TotalTooLarge w b = (b.0, omega (arith, b.1, w.few b.0))
-blames-fault job hs rs os TooManyFiles w (inl many) = inl (omega (arith, many, files-same os (outputs_of rs) w.files))
-blames-fault job hs rs os TooManyFiles w (inr far) =
-    inr (far.0, subst (IsFarLine job (text_at (outputs_of rs) far.0)) (files-front far.0 os (outputs_of rs) w.files) (w.far far.0 (files_in (take far.0 os)) far.1))
+blames-fault job hs rs os TooManyFiles w many = omega (arith, many, count-same os (outputs_of rs) w.files)
+blames-fault job hs rs os (NoSuchFile shard) w bad = place-fault job hs rs os (NoSuchFile shard) w bad
+blames-fault job hs rs os PlaceTooFar w (inl far) =
+    inl (far.0, subst (λ (s : Shift). 2 ^ 64 ≤ s.bytes) (before-same far.0 os (outputs_of rs) w.files) far.1)
+blames-fault job hs rs os PlaceTooFar w (inr bad) = inr (place-fault job hs rs os PlaceTooFar w bad)
 blames-fault job hs rs os OutOfMemory w b = tt
 
 pub blames-so : (job : JobSpec) (b : Option Bound) (hs : List Held) (rs : List Reading) (ws : List Window) (cs : List ℕ) (e : MergeFault)

@@ -7,7 +7,7 @@ use Rattle.mr_shards.specs.declared.line.Line.{Line}
 use Rattle.mr_shards.specs.Lines.{groups_in}
 use Rattle.mr_shards.specs.Cursors.{least_from, lesser}
 use Rattle.mr_shards.proofs.ReadingLemmas.{lines-none}
-use Rattle.mr_shards.specs.Portions.{past_files, shifted_group}
+use Rattle.mr_shards.specs.Portions.{Shift, shifted_group}
 use Rattle.mr_shards.specs.Lines.{group_in}
 
 pub least-more : (least : Option (ℕ × Line)) (at : ℕ) (cs : List Cursor) (d : Cursor) → at < length cs
@@ -20,9 +20,9 @@ unfolding least_from
 least-all least at cs h = at_drop_all (least_from least at) cs at h
 
 -- no bytes, no groups
-pub none-left : (job : JobSpec) (text : List ℕ) (n : ℕ) → length text ≡ 0 → [] ≡ map (shifted_group (past_files n)) (groups_in job text)
-none-left job [] n h = sym (ap (λ ls. map (shifted_group (past_files n)) (map (group_in job) ls)) lines-none)
-none-left job (b ∷ bs) n h = absurd (omega (arith, h))
+pub none-left : (job : JobSpec) (text : List ℕ) (s : Shift) → length text ≡ 0 → [] ≡ map (shifted_group s) (groups_in job text)
+none-left job [] s h = sym (ap (λ ls. map (shifted_group s) (map (group_in job) ls)) lines-none)
+none-left job (b ∷ bs) s h = absurd (omega (arith, h))
 
 pub no_bytes : (text : List ℕ) → length text ≡ 0 → text ≡ []
 no_bytes [] h = refl

@@ -18,7 +18,7 @@ use Rattle.mr_shards.specs.Verdict.{Note, Told}
 use Rattle.mr_shards.specs.Truth.{AreNotesOf}
 use Rattle.mr_shards.specs.Spots.{SkipsExist, left_out_of, moved_name}
 use Rattle.mr_shards.specs.PortionLaws.{pairs_of as pairs_in, shifted_pair}
-use Rattle.mr_shards.specs.Portions.{AreCutAtLines, Portion, Shift, shift_of, whole_of}
+use Rattle.mr_shards.specs.Portions.{AreCutAtLines, Portion, Shift, past_files, shift_of, whole_of}
 use Rattle.mr_shards.proofs.SpotLaws.{left_out-behind, names_stand}
 use Rattle.mr_shards.proofs.LeftOutLemmas.{flags-whole}
 use Rattle.mr_shards.proofs.EmissionLemmas.{all_pairs, emitted-all}
@@ -148,7 +148,7 @@ module _ (request : RequestSpec) (some : 0 < request.split) where
   outputs-are p (v ∷ vs) (f ∷ fss) [] os less t h = absurd t
   outputs-are p (v ∷ vs) (f ∷ fss) (q ∷ pss) [] less t h = absurd h
   outputs-are p (v ∷ vs) (f ∷ fss) (q ∷ pss) (o ∷ os) less t h =
-      (refl, h.0 ∙ count-same v.inputs f t.0.inputs_are, h.1 ∙ t.0.sequential_is p less, outputs-are p vs fss pss os less t.1 h.2)
+      (h.0 ∙ ap past_files (count-same v.inputs f t.0.inputs_are), h.1 ∙ t.0.sequential_is p less, outputs-are p vs fss pss os less t.1 h.2)
 
   inputs-are : (vs : List Told) (fss pss : List (List (List ℕ))) → AreTrueOf request vs fss pss → AreNotesOf (inputs_of vs) (all_files fss)
   inputs-are [] [] [] t = tt
@@ -177,7 +177,7 @@ joined_is_true request vs m files parts outputs some joined notes count merged t
       exist = subst (λ (fs : List (List ℕ)). SkipsExist size fs m.left_out) all (subst (λ (ss : List RecordName). SkipsExist size (whole_of shards) ss) (sym left_out) stands.1);
       count = count;
       sequential_is = λ p less. (let w = merged p less in
-          w.3 request shards p refl some (judged request some vs files parts true joined.counted) (outputs-are request some p vs files parts w.0 less true w.1)
+          w.3 request shards p refl some cut (judged request some vs files parts true joined.counted) (outputs-are request some p vs files parts w.0 less true w.1)
           ∙ (λ i. sequential request (all i) (sym left_out i) p));
       all = joined.pairs_are ∙ pairs-are request some vs files parts true ∙ ap length (sym same) ∙ map-length {Y = Emission} (λ (u : Triple). (u.key, u.value)) ts
           ∙ (λ i. length (emitted request.job size (all i) (sym left_out i)));

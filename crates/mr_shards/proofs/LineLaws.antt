@@ -22,7 +22,7 @@ use Rattle.mr_shards.proofs.MergeLemmas.{with_group-joined}
 use Rattle.mr_shards.proofs.PairLemmas.{IsCounted}
 use Rattle.mr_shards.proofs.ReadingLemmas.{Lacks-append, after-last, before-last, decimal-lacks, lines-next, lines-none, one_reading}
 use Rattle.mr_shards.proofs.WholeLaws.{IsFineGroup, all-texts, groups-fine, merged-append, one-each}
-use Rattle.mr_shards.specs.Portions.{AreCutAtLines, Part, Portion, Shift, last_file, merged_portions, part_of, past_files, shift_behind, shift_of, shifted_group}
+use Rattle.mr_shards.specs.Portions.{Part, Portion, Shift, merged_portions, part_of, shift_of, shifted_group}
 use Rattle.mr_shards.specs.PortionLines.{LinesAreWhole, part_read}
 use Rattle.mr_shards.proofs.AlikeLemmas.{AreAlike, AreLikeParts, alike-portions, alike-texts, places-alike}
 use Rattle.mr_shards.proofs.FileNumberLemmas.{numbers_read, sorted-in, told-in}
@@ -248,7 +248,7 @@ lines_are_whole request portions p some cut judged =
     ∙ lines-merge request.job (map (part_of request p) portions) (parts-fine request p portions some judged)
     ∙ merged_is_whole request portions p some cut
 
--- ---- outputs of shards, which are portions of whole files
+-- ---- outputs of shards
 
 parts-are : (request : RequestSpec) (p : ℕ) (shards : List Portion) (os : List ShardText) → AreOutputsOf request p shards os
     → parts_in request.job os ≡ map (part_read request p) shards
@@ -256,18 +256,13 @@ parts-are request p [] [] outs = refl
 parts-are request p [] (o ∷ os) outs = absurd outs
 parts-are request p (s ∷ ss) [] outs = absurd outs
 parts-are request p (s ∷ ss) (o ∷ os) outs =
-    let shift : past_files o.files ≡ shift_of s = ap past_files outs.1 ∙ sym (ap (λ b. shift_behind b (length s.files) (length (last_file s.files))) outs.0) in
-    let groups = ap (groups_in request.job) outs.2 in
-    let rest = parts-are request p ss os outs.3 in
+    let shift = outs.0 in
+    let groups = ap (groups_in request.job) outs.1 in
+    let rest = parts-are request p ss os outs.2 in
     λ i. record { shift = shift i; groups = groups i } ∷ rest i
 
-never-cut : (request : RequestSpec) (p : ℕ) (shards : List Portion) (os : List ShardText) → AreOutputsOf request p shards os → AreCutAtLines shards
-never-cut request p [] os outs = tt
-never-cut request p (s ∷ ss) [] outs = absurd outs
-never-cut request p (s ∷ ss) (o ∷ os) outs = ((λ e. absurd (cc (sym e ∙ outs.0))), never-cut request p ss os outs.3)
-
 pub output-of_all : (job : JobSpec) (outputs : List ShardText) (text : List ℕ) → text ≡ texts job (merged_portions (parts_in job outputs)) → IsOutputOfAll job outputs text
-output-of_all job outputs text is request shards p same some judged outs =
+output-of_all job outputs text is request shards p same some cut judged outs =
     is ∙ ap (λ (t : JobSpec). texts t (merged_portions (parts_in t outputs))) same
     ∙ ap (λ ps. texts request.job (merged_portions ps)) (parts-are request p shards outputs outs)
-    ∙ lines_are_whole request shards p some (never-cut request p shards outputs outs) judged
+    ∙ lines_are_whole request shards p some cut judged

@@ -15,6 +15,8 @@ use Rattle.mr_reduce.specs.Text.{file_in, files_line, place_line, text_of, total
 use Rattle.std.specs.Int.{IsInRange}
 use Rattle.std.proofs.Common.{◌≢◌}
 use Rattle.mr_jobs.specs.Url.{before_byte}
+use Rattle.mr_bytes.specs.Lists.{Has}
+use Rattle.mr_shards.specs.Refused.{AreInFiles}
 use Rattle.mr_shards.specs.Lines.{after_first, after_last, groups_in}
 use Rattle.mr_shards.specs.Merged.{group_text}
 use Rattle.std.proofs.Common.{not}
@@ -24,7 +26,7 @@ use Rattle.mr_shards.specs.Views.{BeginsWithLine, IsParsed, IsFor, IsSameKind, v
 use Rattle.mr_shards.specs.declared.line.Tally.{Tally}
 use Rattle.mr_shards.specs.declared.line.Tally.TheVariants.{Total, Place}
 use Rattle.mr_shards.proofs.ReadingLemmas.{total-read, place-read, total-first, place-first, value-of, decimal-lacks, Lacks-append, before-first, after-first, after-last}
-use Rattle.mr_shards.specs.Portions.{past_files, shifted_value}
+use Rattle.mr_shards.specs.Portions.{Shift, shifted_value}
 use Rattle.mr_bytes.specs.Cut.{Lacks}
 
 pub lacks_front : (mark at : ℕ) (text : List ℕ) → at ≤ length text → Nowhere (Passes (is_byte mark) text) 0 at → Lacks mark (take at text)
@@ -42,9 +44,9 @@ parted mark (suc at) (b ∷ text) h e = ap (λ l. b ∷ l) (parted mark at text 
 pub behind : (at : ℕ) (text : List ℕ) → take (length text - (at + 1)) (drop (at + 1) text) ≡ drop (at + 1) text
 behind at text = take_all (length text - (at + 1)) (drop (at + 1) text) (omega (arith, length-drop (at + 1) text))
 
-pub replicate-moved : (files n : ℕ) → replicate n One ≡ map (shifted_value (past_files files)) (replicate n One)
-replicate-moved files zero = refl
-replicate-moved files (suc n) = ap (λ l. One ∷ l) (replicate-moved files n)
+pub replicate-moved : (s : Shift) (n : ℕ) → replicate n One ≡ map (shifted_value s) (replicate n One)
+replicate-moved s zero = refl
+replicate-moved s (suc n) = ap (λ l. One ∷ l) (replicate-moved s n)
 
 no-places : (key : List ℕ) (n : ℕ) → flat_map (place_line key) (replicate n One) ≡ []
 no-places key zero = refl
@@ -158,9 +160,25 @@ pub put-nothing : (job : JobSpec) (key out new : List ℕ) (t : Tally) (n : ℕ)
 put-nothing job key out new t n e is put =
     put ∙ sym (ap (λ u. out ++ group_text job (record { key = key; values = values_of u })) e ∙ ap (λ l. out ++ l) (nothing_told job key n is))
 
--- a total is where it is, however many files come before
-pub total-moved : (files n : ℕ) (t : Tally) → t ≡ Total n → replicate n One ≡ map (shifted_value (past_files files)) (values_of t)
-total-moved files n t e = replicate-moved files n ∙ ap (λ u. map (shifted_value (past_files files)) (values_of u)) (sym e)
+-- a total tells no place
+pub total-nowhere : (count n : ℕ) (t : Tally) → t ≡ Total n → AreInFiles count (values_of t)
+total-nowhere count n t e file offset h = by n (subst (λ (u : Tally). Has (values_of u) (At file offset)) e h)
+  where
+    by : (k : ℕ) → Has (replicate k One) (At file offset) → file < count
+    by zero a = absurd a
+    by (suc k) (inl is) = absurd (cc is)
+    by (suc k) (inr a) = by k a
+
+pub place-own : (count file offset : ℕ) (t : Tally) → t ≡ Place file offset → file < count → AreInFiles count (values_of t)
+place-own count file offset t e less f o h = by (subst (λ (u : Tally). Has (values_of u) (At f o)) e h)
+  where
+    by : Has (At file offset ∷ []) (At f o) → f < count
+    by (inl is) = (let same : file ≡ f = cc is in omega (arith, less, same))
+    by (inr none) = absurd none
+
+-- a total is where it is, however places are moved
+pub total-moved : (s : Shift) (n : ℕ) (t : Tally) → t ≡ Total n → replicate n One ≡ map (shifted_value s) (values_of t)
+total-moved s n t e = replicate-moved s n ∙ ap (λ u. map (shifted_value s) (values_of u)) (sym e)
 
 pub lacks_all : (mark : ℕ) (text : List ℕ) → Nowhere (Passes (is_byte mark) text) 0 (length text) → Lacks mark text
 lacks_all mark text none = subst (Lacks mark) (take_all (length text) text (omega arith)) (lacks_front mark (length text) text (omega arith) none)

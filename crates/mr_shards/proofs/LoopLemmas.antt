@@ -20,7 +20,7 @@ use Rattle.mr_shards.specs.declared.line.Tally.TheVariants.{Total, Place}
 use Rattle.mr_shards.specs.declared.merger.ShardText.{ShardText}
 use Rattle.mr_shards.specs.Merged.{Group, group_text, texts, joined, with_group, merged}
 use Rattle.mr_shards.specs.Lines.{groups_in, group_in, NoneFalls}
-use Rattle.mr_shards.specs.Refused.{AreRead, IsRest}
+use Rattle.mr_shards.specs.Refused.{AreInFiles, AreRead, IsShardText}
 use Rattle.mr_shards.specs.Views.{group_of, IsFor, IsPlace, IsSameKind}
 use Rattle.mr_shards.specs.Cursors.{headed, left, IsLineFor, IsHead, IsHeadFor, Goes, with_waiting}
 use Rattle.mr_shards.specs.Outputs.{parts_in, Stands, AreOpened}
@@ -28,8 +28,8 @@ use Rattle.mr_shards.proofs.MergedLaws.{keys, with_group-keys}
 use Rattle.mr_shards.proofs.MergeLemmas.{merged_groups-rise, with_group-joined, in_front}
 use Rattle.mr_shards.proofs.ReadingLemmas.{lines-none}
 use Rattle.mr_shards.proofs.TotalLemmas.{IsWithin, within-first, within-step}
-use Rattle.mr_shards.specs.Portions.{Shift, merged_groups, merged_portions, no_shift, past_files, shifted_group, shifted_parts}
-use Rattle.mr_shards.proofs.ShiftLemmas.{files-behind, merged_at_once}
+use Rattle.mr_shards.specs.Portions.{Shift, behind, past_shard, merged_groups, merged_portions, no_shift, shifted_group, shifted_parts}
+use Rattle.mr_shards.proofs.ShiftLemmas.{merged_at_once}
 use Rattle.mr_shards.proofs.StepLemmas.{IsLeast, NotLess, NoneBefore, less-not, not_less-differs, turned, IsBest, Step, step-kinds, step-for, step-stands, step-pull, step-behind, step-at, merged-none_before}
 
 -- ---- the line that waits
@@ -143,7 +143,7 @@ module _ (job : JobSpec) (line l : Line) (gs : List Group) (old new : List ℕ) 
 -- ---- what the loop keeps
 
 pub record Told (job : JobSpec) (outputs : List ShardText) (cursors : List Cursor) (waiting : Option Line) (out : List ℕ) : Type 0 where
-  pub stands : AllByRecursion (λ (o : ShardText). IsRest job None o.text.now) outputs
+  pub stands : AllByRecursion (IsShardText job) outputs
   pub text : out ++ texts job (with_waiting waiting (merged_groups (map (left job) cursors))) ≡ texts job (merged_portions (parts_in job outputs))
   pub below : IsBelow job waiting cursors
 
@@ -180,7 +180,7 @@ kept-step job outputs old new waiting line l out out' s read g k =
 
 -- ---- the ends of the loop
 
-opened-all : (job : JobSpec) (cs : List Cursor) (os : List ShardText) → AreOpened job cs os → AllByRecursion (Stands job) cs → AllByRecursion (λ (o : ShardText). IsRest job None o.text.now) os
+opened-all : (job : JobSpec) (cs : List Cursor) (os : List ShardText) → AreOpened job cs os → AllByRecursion (Stands job) cs → AllByRecursion (IsShardText job) os
 opened-all job [] [] o s = tt
 opened-all job [] (x ∷ os) o s = absurd o
 opened-all job (c ∷ cs) [] o s = absurd o
@@ -213,8 +213,11 @@ all-stand job [] ends kinds = tt
 all-stand job (c ∷ cs) ends kinds =
     let empty : c.rest.now ≡ [] = stands-end job c.head c.rest.now ends.0 kinds.0 in (
       record {
-        rest = record { groups = []; text_is = empty; lines = tt; in_turn = tt };
-        in_order = subst (λ (o : Option Line). NoneFalls (headed o (map (shifted_group (past_files c.before)) (groups_in job c.rest.now)))) (sym ends.0) tt;
+        rest = (
+          record { groups = []; text_is = empty; lines = tt; in_turn = tt },
+          subst (AllByRecursion (λ (g : Group). AreInFiles c.count g.values)) (sym (ap (groups_in job) empty ∙ no-groups job)) tt,
+        );
+        in_order = subst (λ (o : Option Line). NoneFalls (headed o (map (shifted_group c.before) (groups_in job c.rest.now)))) (sym ends.0) tt;
       },
       all-stand job cs ends.1 kinds.1,
     )
@@ -222,10 +225,10 @@ all-stand job (c ∷ cs) ends kinds =
 none-left : (job : JobSpec) (cs : List Cursor) → AllByRecursion (λ c. c.head ≡ None) cs → merged_groups (map (left job) cs) ≡ []
 none-left job [] ends = refl
 none-left job (c ∷ cs) ends =
-    ap (λ (o : Option Line). merged (headed o (map (shifted_group (past_files c.before)) (groups_in job c.rest.now))) (merged_groups (map (left job) cs))) ends.0 ∙ none-left job cs ends.1
+    ap (λ (o : Option Line). merged (headed o (map (shifted_group c.before) (groups_in job c.rest.now))) (merged_groups (map (left job) cs))) ends.0 ∙ none-left job cs ends.1
 
 pub record Ends (job : JobSpec) (outputs : List ShardText) (waiting : Option Line) (out : List ℕ) : Type 0 where
-  pub stands : AllByRecursion (λ (o : ShardText). IsRest job None o.text.now) outputs
+  pub stands : AllByRecursion (IsShardText job) outputs
   pub text : out ++ texts job (with_waiting waiting []) ≡ texts job (merged_portions (parts_in job outputs))
 
 pub kept-end : (job : JobSpec) (outputs : List ShardText) (cs : List Cursor) (waiting : Option Line) (out : List ℕ) → IsBest cs None → Kept job outputs cs waiting out → Ends job outputs waiting out
@@ -235,27 +238,27 @@ kept-end job outputs cs waiting out ends k =
 
 -- ---- opening
 
-opened-push : (job : JobSpec) (cs : List Cursor) (os : List ShardText) (c : Cursor) (o : ShardText) → AreOpened job cs os → (Stands job c → IsRest job None o.text.now) → AreOpened job (cs ++ c ∷ []) (os ++ o ∷ [])
+opened-push : (job : JobSpec) (cs : List Cursor) (os : List ShardText) (c : Cursor) (o : ShardText) → AreOpened job cs os → (Stands job c → IsShardText job o) → AreOpened job (cs ++ c ∷ []) (os ++ o ∷ [])
 opened-push job [] [] c o a f = (f, tt)
 opened-push job [] (x ∷ os) c o a f = absurd a
 opened-push job (d ∷ cs) [] c o a f = absurd a
 opened-push job (d ∷ cs) (x ∷ os) c o a f = (a.0, opened-push job cs os c o a.1 f)
 
 pub opened-more : (job : JobSpec) (cs : List Cursor) (os : List ShardText) (i : ℕ) (d : ShardText) (c : Cursor) → i < length os → AreOpened job cs (take i os)
-    → (Stands job c → IsRest job None (get_or os i d).text.now) → AreOpened job (cs ++ c ∷ []) (take (i + 1) os)
+    → (Stands job c → IsShardText job (get_or os i d)) → AreOpened job (cs ++ c ∷ []) (take (i + 1) os)
 opened-more job cs os i d c h a f = subst (AreOpened job (cs ++ c ∷ [])) (sym (take_more os i d h)) (opened-push job cs (take i os) c (get_or os i d) a f)
 
-pub lefts-more : (job : JobSpec) (cs : List Cursor) (os : List ShardText) (i before next : ℕ) (d : ShardText) (c : Cursor) (all : List (List Group)) → i < length os
-    → map (left job) cs ++ shifted_parts (past_files before) (parts_in job (drop i os)) ≡ all → left job c ≡ map (shifted_group (past_files before)) (groups_in job (get_or os i d).text.now)
-    → next ≡ before + (get_or os i d).files
-    → map (left job) (cs ++ c ∷ []) ++ shifted_parts (past_files next) (parts_in job (drop (i + 1) os)) ≡ all
+pub lefts-more : (job : JobSpec) (cs : List Cursor) (os : List ShardText) (i : ℕ) (before next : Shift) (d : ShardText) (c : Cursor) (all : List (List Group)) → i < length os
+    → map (left job) cs ++ shifted_parts before (parts_in job (drop i os)) ≡ all → left job c ≡ map (shifted_group before) (groups_in job (get_or os i d).text.now)
+    → next ≡ behind before (past_shard (get_or os i d).files)
+    → map (left job) (cs ++ c ∷ []) ++ shifted_parts next (parts_in job (drop (i + 1) os)) ≡ all
 lefts-more job cs os i before next d c all h e here n =
-    ap (λ (l : List (List Group)). l ++ shifted_parts (past_files next) (parts_in job (drop (i + 1) os))) (map-append (left job) cs (c ∷ []))
-    ∙ append_assoc (map (left job) cs) (left job c ∷ []) (shifted_parts (past_files next) (parts_in job (drop (i + 1) os)))
-    ∙ ap (λ (gs : List Group). map (left job) cs ++ gs ∷ shifted_parts (past_files next) (parts_in job (drop (i + 1) os))) here
-    ∙ ap (λ (s : Shift). map (left job) cs ++ map (shifted_group (past_files before)) (groups_in job (get_or os i d).text.now) ∷ shifted_parts s (parts_in job (drop (i + 1) os)))
-    (ap past_files n ∙ sym (files-behind before (get_or os i d).files))
-    ∙ ap (λ (l : List ShardText). map (left job) cs ++ shifted_parts (past_files before) (parts_in job l)) (sym (drop_more os i d h)) ∙ e
+    ap (λ (l : List (List Group)). l ++ shifted_parts next (parts_in job (drop (i + 1) os))) (map-append (left job) cs (c ∷ []))
+    ∙ append_assoc (map (left job) cs) (left job c ∷ []) (shifted_parts next (parts_in job (drop (i + 1) os)))
+    ∙ ap (λ (gs : List Group). map (left job) cs ++ gs ∷ shifted_parts next (parts_in job (drop (i + 1) os))) here
+    ∙ ap (λ (s : Shift). map (left job) cs ++ map (shifted_group before) (groups_in job (get_or os i d).text.now) ∷ shifted_parts s (parts_in job (drop (i + 1) os)))
+    n
+    ∙ ap (λ (l : List ShardText). map (left job) cs ++ shifted_parts before (parts_in job l)) (sym (drop_more os i d h)) ∙ e
 
 pub least-within : (cs : List Cursor) (at : ℕ) (line : Line) → IsLeast cs at line → at < length cs
 least-within cs at line b = omega (arith, ap length b.is, length-append b.front (b.one ∷ b.back), b.place)

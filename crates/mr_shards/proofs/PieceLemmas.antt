@@ -7,11 +7,12 @@ use Rattle.std.proofs.Common.{None}
 use Rattle.std.specs.List.{AllByRecursion}
 use Rattle.mr_shards.specs.Merged.{texts}
 use Rattle.mr_shards.specs.Outputs.{parts_in}
-use Rattle.mr_shards.specs.Refused.{IsRest}
+use Rattle.mr_shards.specs.Refused.{IsShardText}
 use Rattle.mr_shards.specs.Pieces.{AreBlamed, ArePut, AreWithin, all_read_on, output_with, pieces_of, read_on, told}
 use Rattle.mr_jobs.specs.JobSpec.{JobSpec}
 use Rattle.mr_shards.specs.declared.merger.MergeFault.TheVariants.{OutOfMemory}
 use Rattle.mr_shards.specs.Portions.{merged_portions}
+use Rattle.mr_shards.specs.declared.shift.ShardFiles.{ShardFiles}
 use Rattle.mr_shards.specs.declared.merger.ShardText.{ShardText}
 
 pub within-at : (cs : List ℕ) (ws : List Window) (i d : ℕ) (e : Window) → AreWithin cs ws → i < length cs → get_or cs i d ≤ length (get_or ws i e).bytes.now
@@ -51,19 +52,19 @@ module _ (hs : List Held) (ws : List Window) (cs : List ℕ) (i : ℕ) where
 pub taken-length : (n : ℕ) (text : List ℕ) → n ≤ length text → n ≡ length (take n text)
 taken-length n text h = sym (length-take-le n text h)
 
--- outputs with these numbers of files and these bytes
-abbrev pub outputs_as : List (ℕ × List ℕ) → List ShardText
-outputs_as ps = map (λ (p : ℕ × List ℕ). output_with p.0 p.1) ps
+-- outputs of shards with these files, and with these bytes
+abbrev pub outputs_as : List (ShardFiles × List ℕ) → List ShardText
+outputs_as ps = map (λ (p : ShardFiles × List ℕ). output_with p.0 p.1) ps
 
-pub told-as : (ps : List (ℕ × List ℕ)) → map told (outputs_as ps) ≡ ps
+pub told-as : (ps : List (ShardFiles × List ℕ)) → map told (outputs_as ps) ≡ ps
 told-as [] = refl
-told-as (p ∷ ps) = ap (λ (qs : List (ℕ × List ℕ)). p ∷ qs) (told-as ps)
+told-as (p ∷ ps) = ap (λ (qs : List (ShardFiles × List ℕ)). p ∷ qs) (told-as ps)
 
-pub out-of_memory : (job : JobSpec) (hs : List Held) (ps : List (ℕ × List ℕ)) → AreBlamed job hs ps OutOfMemory
+pub out-of_memory : (job : JobSpec) (hs : List Held) (ps : List (ShardFiles × List ℕ)) → AreBlamed job hs ps OutOfMemory
 out-of_memory job hs ps = record { outputs = outputs_as ps; are = told-as ps; fault = OutOfMemory; is = refl; blames = tt }
 
-pub put-all : (job : JobSpec) (ps : List (ℕ × List ℕ)) (out out' : List ℕ) (os seen : List ShardText) (text shown : List ℕ) → map told os ≡ ps → seen ≡ os
-    → AllByRecursion (λ (o : ShardText). IsRest job None o.text.now) seen → text ≡ texts job (merged_portions (parts_in job seen)) → shown ≡ text → out' ≡ out ++ shown → ArePut job ps out out'
+pub put-all : (job : JobSpec) (ps : List (ShardFiles × List ℕ)) (out out' : List ℕ) (os seen : List ShardText) (text shown : List ℕ) → map told os ≡ ps → seen ≡ os
+    → AllByRecursion (IsShardText job) seen → text ≡ texts job (merged_portions (parts_in job seen)) → shown ≡ text → out' ≡ out ++ shown → ArePut job ps out out'
 put-all job ps out out' os seen text shown are same stands is show e = record {
   outputs = seen;
   are = ap (map told) same ∙ are;

@@ -1,19 +1,23 @@
 -- Texts of lines with keys in turn, line by line.
-use Rattle.std.proofs.Common.{◌⊎◌, Result, Err, ◌≤◌, ◌≡◌, ℕ, ◌+◌, ◌<◌, ◌%◌, ◌^◌, ◌++◌, List, [], ◌∷◌, length, get_or, set, refl, ap, sym, ◌∙◌, subst, inl, inr, arith, Option, None, Some, map, replicate, take}
-use Rattle.std.proofs.lemmas.Bool.{cases_eq, cases_lt}
-use Rattle.std.proofs.lemmas.List.Sums.{sum_by_more, sum_by-take-le}
-use Rattle.std.proofs.lemmas.List.{append_assoc, append-nil, append_cancel_left, get_or-set_same, get_or-set_other, get_or_append_left, get_or_at, length-set, length-replicate, length_push, get_or-map}
+use Rattle.std.proofs.Common.{◌⊎◌, Result, Err, ◌≤◌, ◌≡◌, ℕ, zero, suc, ◌+◌, ◌<◌, ◌%◌, ◌^◌, ◌++◌, List, [], ◌∷◌, length, get_or, set, refl, ap, sym, ◌∙◌, subst, inl, inr, arith, Option, None, Some, map, replicate, take}
+use Rattle.std.proofs.lemmas.Bool.{cases_eq}
+use Rattle.std.proofs.lemmas.List.Sums.{sum_by-cons, sum_by-take-le}
+use Rattle.std.proofs.lemmas.List.{append_assoc, append-nil, append_cancel_left, get_or-set_same, get_or-set_other, get_or_append_left, get_or_at, length-set, length-replicate, length_push, get_or-map, take_more}
 use Rattle.std.specs.Prelude.{IfErr}
 use Rattle.std.specs.List.{AllByRecursion}
-use Rattle.mr_bytes.specs.declared.Value.TheVariants.{One}
+use Rattle.mr_bytes.specs.declared.Value.TheVariants.{One, At}
+use Rattle.mr_bytes.specs.Lists.{Has}
+use Rattle.mr_shards.specs.Portions.{Shift, behind, no_shift, past_cut, past_shard}
+use Rattle.mr_shards.specs.Refused.{PassesNot}
 use Rattle.mr_jobs.specs.JobSpec.{JobSpec, WordCount, LinesWith, Resources, InvertedIndex}
 use Rattle.mr_bytes.specs.Cut.{Lacks}
 use Rattle.mr_shards.specs.declared.cursor.Cursor.{Cursor}
 use Rattle.mr_shards.specs.declared.merger.MergeFault.{MergeFault}
-use Rattle.mr_shards.specs.declared.merger.MergeFault.TheVariants.{BadLine, TotalTooLarge, TooManyFiles, OutOfMemory}
+use Rattle.mr_shards.specs.declared.merger.MergeFault.TheVariants.{BadLine, TotalTooLarge, TooManyFiles, NoSuchFile, PlaceTooFar, OutOfMemory}
 use Rattle.mr_shards.specs.declared.line.Line.{Line}
 use Rattle.mr_shards.specs.declared.line.Tally.{Tally}
 use Rattle.mr_shards.specs.declared.line.Tally.TheVariants.{Total, Place}
+use Rattle.mr_shards.specs.declared.shift.ShardFiles.{ShardFiles}
 use Rattle.mr_shards.specs.declared.merger.ShardText.{ShardText}
 use Rattle.mr_shards.specs.Merged.{Group, group_text, texts}
 use Rattle.std.proofs.Math.Nat.{mod-add-mod}
@@ -21,7 +25,7 @@ use Rattle.mr_sequential.proofs.SourceLemmas.{flat_map-append}
 use Rattle.mr_shards.specs.Lines.{HasLine, groups_in, group_in}
 use Rattle.mr_shards.specs.Views.{BeginsWithLine, IsParsed, group_of, values_of}
 use Rattle.mr_shards.specs.Cursors.{ReadsOn}
-use Rattle.mr_shards.specs.Refused.{AreRead, Blames, BlamesOnly, InTurn, IsBadLine, IsFarLine, IsFarPlace, IsLineOf, IsReadAt, IsReadOf, IsReadTo, IsRest, MayFollow, NoLineFollows, Overflows, TakesNot, files_in, last_key, last_of, text_at, total_of}
+use Rattle.mr_shards.specs.Refused.{AreRead, Blames, BlamesOnly, InTurn, HasBadPlace, IsBadLine, IsBadPlace, IsLineOf, IsReadAt, IsReadOf, IsReadTo, IsRest, IsUnmoved, MayFollow, NoLineFollows, Overflows, TakesNot, TellsPlace, count_at, files_in, last_key, last_of, shift_before, shift_from, text_at, total_of}
 use Rattle.mr_shards.proofs.LineLemmas.{IsCut, begun, cut-read, cut-text}
 use Rattle.mr_shards.proofs.ReadingLemmas.{lines-none}
 
@@ -161,66 +165,80 @@ bad-text job text line b r =
 pub text-at : (os : List ShardText) (i : ℕ) (d : ShardText) → i < length os → text_at os i ≡ (get_or os i d).text.now
 text-at os i d h = get_or-map (λ (o : ShardText). o.text.now) os i d [] h
 
+pub count-at : (os : List ShardText) (i : ℕ) (d : ShardText) → i < length os → count_at os i ≡ (get_or os i d).files.count
+count-at os i d h = get_or-map (λ (o : ShardText). o.files.count) os i d 0 h
+
 pub read-push : (job : JobSpec) (cs : List Cursor) (os : List ShardText) (i : ℕ) (d : ShardText) (c : Cursor) → length cs ≡ i → i < length os → AreRead job cs os
-    → ((text : List ℕ) → IsReadTo job text None (get_or os i d).text.now 0 → IsReadOf job text c) → c.before ≡ files_in (take i os) → AreRead job (cs ++ c ∷ []) os
-read-push job cs os i d c same h read here behind j e l =
+    → ((text : List ℕ) → IsReadTo job text None (get_or os i d).text.now 0 → IsReadOf job text c) → c.before ≡ shift_before os i → c.count ≡ (get_or os i d).files.count
+    → AreRead job (cs ++ c ∷ []) os
+read-push job cs os i d c same h read here behind count j e l =
     elim (cases_eq j i) [
       | inl at ↦
           (let one : get_or (cs ++ c ∷ []) j e ≡ c = get_or_at cs c [] e j (omega (arith, same, at)) in
           let t : List ℕ = (get_or os i d).text.now in
           let text : text_at os j ≡ t = ap (text_at os) at ∙ text-at os i d h in
           let now : IsReadOf job (text_at os j) c = here (text_at os j) (subst (λ (u : List ℕ). IsReadTo job u None t 0) (sym text) (read-none job t)) in
-          subst (IsReadAt job os j) (sym one) (now, behind ∙ ap (λ k. files_in (take k os)) (sym at)))
+          subst (IsReadAt job os j) (sym one) (now, behind ∙ ap (shift_before os) (sym at), count ∙ sym (count-at os i d h) ∙ ap (count_at os) (sym at)))
       | inr other ↦
           (let low : j < length cs = omega (arith, l, length_push cs c, same, other) in
           subst (IsReadAt job os j) (sym (get_or_append_left cs (c ∷ []) e j low)) (read j e low))
     ]
 
 read-set : (job : JobSpec) (cs : List Cursor) (os : List ShardText) (at : ℕ) (one next : Cursor) → at < length cs → get_or cs at one ≡ one → AreRead job cs os
-    → ((text : List ℕ) → IsReadOf job text one → IsReadOf job text next) → next.before ≡ one.before → AreRead job (set cs at next) os
-read-set job cs os at one next h is read here stays j d l =
+    → ((text : List ℕ) → IsReadOf job text one → IsReadOf job text next) → next.before ≡ one.before → next.count ≡ one.count → AreRead job (set cs at next) os
+read-set job cs os at one next h is read here stays count j d l =
     elim (cases_eq j at) [
       | inl same ↦
           (let now : get_or (set cs at next) j d ≡ next = ap (λ k. get_or (set cs at next) k d) same ∙ get_or-set_same cs at next d h in
           let was : IsReadAt job os j one = subst (λ k. IsReadAt job os k one) (sym same) (subst (IsReadAt job os at) is (read at one h)) in
-          subst (IsReadAt job os j) (sym now) (here (text_at os j) was.0, stays ∙ was.1))
+          subst (IsReadAt job os j) (sym now) (here (text_at os j) was.0, stays ∙ was.1, count ∙ was.2))
       | inr other ↦
           (let low : j < length cs = omega (arith, l, length-set cs at next) in
           subst (IsReadAt job os j) (sym (get_or-set_other cs at j next d other)) (read j d low))
     ]
 
 pub read-step : (job : JobSpec) (os : List ShardText) (at : ℕ) (old new : List Cursor) → at < length old → ReadsOn job at old new → AreRead job old os → AreRead job new os
-read-step job os at old new h r read = subst (λ (cs : List Cursor). AreRead job cs os) (sym r.set) (read-set job old os at r.one r.next h r.was read r.read r.before)
+read-step job os at old new h r read = subst (λ (cs : List Cursor). AreRead job cs os) (sym r.set) (read-set job old os at r.one r.next h r.was read r.read r.files.0 r.files.1)
 
--- ---- places that are too far
+-- ---- places that are not moved
 
 -- a line that tells one, in front of the text
-pub far-line : (job : JobSpec) (text : List ℕ) (files : ℕ) (line : Line) (rest : List ℕ) → IsLineOf job (group_of line) → text ≡ group_text job (group_of line) ++ rest
-    → IsFarPlace files line.tally → IsFarLine job text files
-far-line job text files line rest l e far = by line.tally refl far
+pub place-line : (job : JobSpec) (text : List ℕ) (line : Line) (rest : List ℕ) (is_so : ℕ → ℕ → Type 0) (file offset : ℕ) → IsLineOf job (group_of line)
+    → text ≡ group_text job (group_of line) ++ rest → line.tally ≡ Place file offset → is_so file offset → TellsPlace job text is_so
+place-line job text line rest is_so file offset l e is so = record {
+  before = [];
+  line = group_of line;
+  rest = rest;
+  file = file;
+  offset = offset;
+  text_is = e;
+  lines = tt;
+  is_line = l;
+  place = subst (λ (t : Tally). Has (values_of t) (At file offset)) (sym is) (inl refl);
+  so = so;
+}
+
+pub unmoved-line : (job : JobSpec) (at count : ℕ) (before : Shift) (last : Option (List ℕ)) (text : List ℕ) (number : ℕ) (line : Line) (rest : List ℕ) (e : MergeFault)
+    → IsLineOf job (group_of line) → text ≡ group_text job (group_of line) ++ rest → IsUnmoved at count before line.tally e → BlamesOnly job at count before last text number e
+unmoved-line job at count before last text number line rest e l first unmoved = by line.tally refl e unmoved
   where
-    by : (t : Tally) → line.tally ≡ t → IsFarPlace files t → IsFarLine job text files
-    by (Total n) is past = absurd past
-    by (Place file offset) is past = record {
-      before = [];
-      line = group_of line;
-      rest = rest;
-      file = file;
-      offset = offset;
-      text_is = e;
-      lines = tt;
-      is_line = l;
-      place = ap values_of is;
-      far = past;
-    }
+    by : (t : Tally) → line.tally ≡ t → (f : MergeFault) → IsUnmoved at count before t f → BlamesOnly job at count before last text number f
+    by (Total n) is f u = absurd u
+    by (Place file offset) is (BadLine shard at_line) u = absurd u
+    by (Place file offset) is TotalTooLarge u = absurd u
+    by (Place file offset) is TooManyFiles u = place-line job text line rest (IsBadPlace at count before TooManyFiles) file offset l first is u
+    by (Place file offset) is (NoSuchFile shard) u = place-line job text line rest (IsBadPlace at count before (NoSuchFile shard)) file offset l first is u
+    by (Place file offset) is PlaceTooFar u = place-line job text line rest (IsBadPlace at count before PlaceTooFar) file offset l first is u
+    by (Place file offset) is OutOfMemory u = absurd u
 
 pub lines-join : (job : JobSpec) (gs hs : List Group) → AllByRecursion (IsLineOf job) gs → AllByRecursion (IsLineOf job) hs → AllByRecursion (IsLineOf job) (gs ++ hs)
 lines-join job [] hs all more = more
 lines-join job (g ∷ gs) hs all more = (all.0, lines-join job gs hs all.1 more)
 
 -- and behind lines of the job
-pub far-behind : (job : JobSpec) (text rest : List ℕ) (files : ℕ) (gs : List Group) → text ≡ texts job gs ++ rest → AllByRecursion (IsLineOf job) gs → IsFarLine job rest files → IsFarLine job text files
-far-behind job text rest files gs e all f = record {
+pub place-behind : (job : JobSpec) (text rest : List ℕ) (is_so : ℕ → ℕ → Type 0) (gs : List Group) → text ≡ texts job gs ++ rest → AllByRecursion (IsLineOf job) gs
+    → TellsPlace job rest is_so → TellsPlace job text is_so
+place-behind job text rest is_so gs e all f = record {
   before = gs ++ f.before;
   line = f.line;
   rest = f.rest;
@@ -232,51 +250,97 @@ far-behind job text rest files gs e all f = record {
   lines = lines-join job gs f.before all f.lines;
   is_line = f.is_line;
   place = f.place;
-  far = f.far;
+  so = f.so;
 }
+
+-- ---- how many files
+
+shift-append : (s : Shift) (xs ys : List ShardText) → shift_from s (xs ++ ys) ≡ shift_from (shift_from s xs) ys
+shift-append s [] ys = refl
+shift-append s (x ∷ xs) ys = shift-append (behind s (past_shard x.files)) xs ys
+
+pub shift-next : (os : List ShardText) (i : ℕ) (d : ShardText) (before next : Shift) → i < length os → before ≡ shift_before os i → next ≡ behind before (past_shard (get_or os i d).files)
+    → next ≡ shift_before os (i + 1)
+shift-next os i d before next less is sum =
+    sum ∙ ap (λ (s : Shift). behind s (past_shard (get_or os i d).files)) is ∙ sym (shift-append no_shift (take i os) (get_or os i d ∷ []))
+    ∙ ap (shift_from no_shift) (sym (take_more os i d less))
+
+shift-files : (s : Shift) (os : List ShardText) → (shift_from s os).files ≡ s.files + files_in os
+shift-files s [] = omega arith
+shift-files s (o ∷ os) =
+    omega (arith, shift-files (behind s (past_shard o.files)) os, sum_by-cons (λ (q : ShardText). (past_shard q.files).files) o os)
+
+-- a file of a shard, behind those before it, is among all
+own-file : (f : ShardFiles) (file : ℕ) → file < f.count → file ≤ (past_shard f).files
+own-file f file less = by f.cut
+  where
+    by : (c : Option ℕ) → file ≤ (past_cut f.count c).files
+    by None = omega (arith, less)
+    by (Some last) = omega (arith, less)
+
+within-all : (s : Shift) (i : ℕ) (os : List ShardText) (file : ℕ) → file < count_at os i → (shift_from s (take i os)).files + file ≤ s.files + files_in os
+within-all s zero [] file less = absurd (omega (arith, less))
+within-all s (suc i) [] file less = absurd (omega (arith, less))
+within-all s zero (o ∷ os) file less =
+    omega (arith, own-file o.files file less, sum_by-cons (λ (q : ShardText). (past_shard q.files).files) o os)
+within-all s (suc i) (o ∷ os) file less =
+    omega (arith, within-all (behind s (past_shard o.files)) i os file less, sum_by-cons (λ (q : ShardText). (past_shard q.files).files) o os)
 
 -- ---- blame
 
 -- who blames a line of what is left blames the output
-blames-all : (job : JobSpec) (at files : ℕ) (os : List ShardText) (last : Option (List ℕ)) (text : List ℕ) (number : ℕ) (e : MergeFault) → IsReadTo job (text_at os at) last text number
-    → files ≡ files_in (take at os) → BlamesOnly job at files last text number e → Blames job os e
-blames-all job at files os last text number (BadLine shard line) read behind b =
+bad-place : (job : JobSpec) (at count : ℕ) (before : Shift) (os : List ShardText) (last : Option (List ℕ)) (text : List ℕ) (number : ℕ) (e : MergeFault)
+    → IsReadTo job (text_at os at) last text number → before ≡ shift_before os at → count ≡ count_at os at → TellsPlace job text (IsBadPlace at count before e)
+    → HasBadPlace job os e
+bad-place job at count before os last text number e read behind files t = (
+  at,
+  subst (λ (s : Shift). TellsPlace job (text_at os at) (IsBadPlace at (count_at os at) s e)) behind
+      (subst (λ n. TellsPlace job (text_at os at) (IsBadPlace at n before e)) files
+      (place-behind job (text_at os at) text (IsBadPlace at count before e) read.groups read.text_is read.lines t)),
+)
+
+blames-all : (job : JobSpec) (at count : ℕ) (before : Shift) (os : List ShardText) (last : Option (List ℕ)) (text : List ℕ) (number : ℕ) (e : MergeFault)
+    → IsReadTo job (text_at os at) last text number → before ≡ shift_before os at → count ≡ count_at os at → BlamesOnly job at count before last text number e
+    → Blames job os e
+blames-all job at count before os last text number (BadLine shard line) read behind files b =
     let bad : IsBadLine job (text_at os at) number = record { last = last; rest = text; before = read; some = b.2; bad = b.3 } in
     let here : IsBadLine job (text_at os shard) line = subst (IsBadLine job (text_at os shard)) (sym b.1) (subst (λ k. IsBadLine job (text_at os k) number) (sym b.0) bad) in
     (here, bad-text job (text_at os shard) line here)
-blames-all job at files os last text number TotalTooLarge read behind b = absurd b
-blames-all job at files os last text number TooManyFiles read behind b =
-    inr (at, subst (IsFarLine job (text_at os at)) behind (far-behind job (text_at os at) text files read.groups read.text_is read.lines b))
-blames-all job at files os last text number OutOfMemory read behind b = tt
+blames-all job at count before os last text number TotalTooLarge read behind files b = absurd b
+blames-all job at count before os last text number TooManyFiles read behind files b =
+    let less : b.file < count_at os at = subst (λ n. b.file < n) files b.so.0 in
+    omega (arith, b.so.1, ap (λ (s : Shift). s.files) behind, within-all no_shift at os b.file less)
+blames-all job at count before os last text number (NoSuchFile shard) read behind files b = bad-place job at count before os last text number (NoSuchFile shard) read behind files b
+blames-all job at count before os last text number PlaceTooFar read behind files b = inr (bad-place job at count before os last text number PlaceTooFar read behind files b)
+blames-all job at count before os last text number OutOfMemory read behind files b = tt
 
-pub blames-opening : (job : JobSpec) (i files : ℕ) (os : List ShardText) (d : ShardText) (e : MergeFault) → i < length os → files ≡ files_in (take i os)
-    → BlamesOnly job i files None (get_or os i d).text.now 0 e → Blames job os e
-blames-opening job i files os d e h behind b =
-    blames-all job i files os None (get_or os i d).text.now 0 e
-    (subst (λ (t : List ℕ). IsReadTo job t None (get_or os i d).text.now 0) (sym (text-at os i d h)) (read-none job (get_or os i d).text.now)) behind b
+pub blames-opening : (job : JobSpec) (i : ℕ) (before : Shift) (os : List ShardText) (d : ShardText) (e : MergeFault) → i < length os → before ≡ shift_before os i
+    → BlamesOnly job i (get_or os i d).files.count before None (get_or os i d).text.now 0 e → Blames job os e
+blames-opening job i before os d e h behind b =
+    blames-all job i (get_or os i d).files.count before os None (get_or os i d).text.now 0 e
+    (subst (λ (t : List ℕ). IsReadTo job t None (get_or os i d).text.now 0) (sym (text-at os i d h)) (read-none job (get_or os i d).text.now)) behind
+    (sym (count-at os i d h)) b
 
 pub blames-left : (job : JobSpec) (at : ℕ) (cs : List Cursor) (os : List ShardText) (one : Cursor) (e : MergeFault) → at < length cs → get_or cs at one ≡ one → AreRead job cs os
-    → BlamesOnly job at one.before (last_key one.head) one.rest.now one.lines e → Blames job os e
+    → BlamesOnly job at one.count one.before (last_key one.head) one.rest.now one.lines e → Blames job os e
 blames-left job at cs os one e h is read b =
     let here : IsReadAt job os at one = subst (IsReadAt job os at) is (read at one h) in
-    blames-all job at one.before os (last_key one.head) one.rest.now one.lines e here.0 here.1 b
+    blames-all job at one.count one.before os (last_key one.head) one.rest.now one.lines e here.0 here.1 here.2 b
 
--- ---- how many files
-
-pub files-next : (os : List ShardText) (i : ℕ) (d : ShardText) (before files : ℕ) → i < length os → before ≡ files_in (take i os) → files ≡ before + (get_or os i d).files
-    → files ≡ files_in (take (i + 1) os)
-files-next os i d before files less behind sum = sum ∙ ap (λ k. k + (get_or os i d).files) behind ∙ sym (sum_by_more (λ (o : ShardText). o.files) os i d less)
-
-pub files-over : (os : List ShardText) (i : ℕ) (d : ShardText) (before : ℕ) → i < length os → before ≡ files_in (take i os) → (before + (get_or os i d).files < 2 ^ 32 → ⊥) → 2 ^ 32 ≤ files_in os
-files-over os i d before less behind over =
-    let next = files-next os i d before (before + (get_or os i d).files) less behind refl in
-    let all = sum_by-take-le (λ (o : ShardText). o.files) os (i + 1) in
-    by (cases_lt (before + (get_or os i d).files) (2 ^ 32)) next all
+-- what is behind a shard is not moved so far
+pub passes-not : (job : JobSpec) (os : List ShardText) (i : ℕ) (d : ShardText) (before : Shift) (e : MergeFault) → i < length os → before ≡ shift_before os i
+    → PassesNot (behind before (past_shard (get_or os i d).files)) e → Blames job os e
+passes-not job os i d before e less is not =
+    by e (subst (λ (s : Shift). PassesNot s e) (shift-next os i d before (behind before (past_shard (get_or os i d).files)) less is refl) not)
   where
-    by : (before + (get_or os i d).files < 2 ^ 32) ⊎ (2 ^ 32 ≤ before + (get_or os i d).files) → before + (get_or os i d).files ≡ files_in (take (i + 1) os)
-        → files_in (take (i + 1) os) ≤ files_in os → 2 ^ 32 ≤ files_in os
-    by (inl small) next all = absurd (over small)
-    by (inr large) next all = omega (arith, large, next, all)
+    by : (f : MergeFault) → PassesNot (shift_before os (i + 1)) f → Blames job os f
+    by (BadLine shard line) n = absurd n
+    by TotalTooLarge n = absurd n
+    by TooManyFiles n =
+        omega (arith, n, shift-files no_shift (take (i + 1) os), sum_by-take-le (λ (o : ShardText). (past_shard o.files).files) os (i + 1))
+    by (NoSuchFile shard) n = absurd n
+    by PlaceTooFar n = inl (i + 1, n)
+    by OutOfMemory n = absurd n
 
 -- the error that is handed on
 pub handed : {T : Type 0} (P : MergeFault → Type 0) (r : Result T MergeFault) (e : MergeFault) → (y : MergeFault) × (r ≡ Err y) × (y ≡ e) → P e → IfErr r P
@@ -290,6 +354,8 @@ pub blames-taken : (job : JobSpec) (os : List ShardText) (waiting : Option Line)
 blames-taken job os waiting line (BadLine shard at) b f = absurd b
 blames-taken job os waiting line TotalTooLarge b f = f b
 blames-taken job os waiting line TooManyFiles b f = absurd b
+blames-taken job os waiting line (NoSuchFile shard) b f = absurd b
+blames-taken job os waiting line PlaceTooFar b f = absurd b
 blames-taken job os waiting line OutOfMemory b f = tt
 
 -- the same from behind: a line of the job in front of such a text

@@ -5,17 +5,19 @@ use Rattle.std.proofs.lemmas.List.{append-nil, drop_all}
 use Rattle.std.specs.List.{AllByRecursion}
 use Rattle.mr_jobs.specs.JobSpec.{JobSpec}
 use Rattle.mr_shards.specs.declared.merger.MergeFault.{MergeFault}
+use Rattle.mr_shards.specs.declared.shift.ShardFiles.{ShardFiles}
 use Rattle.mr_shards.specs.declared.window.Held.{Held}
 use Rattle.mr_shards.specs.declared.window.Window.{Window}
 use Rattle.mr_shards.specs.Merged.{Group, merged, texts}
 use Rattle.mr_shards.specs.Lines.{group_in, groups_in}
 use Rattle.mr_shards.specs.Outputs.{parts_in}
+use Rattle.mr_shards.specs.Refused.{AreInFiles}
 use Rattle.mr_shards.specs.Pieces.{Adds, AreBlamed, AreFresh, ArePut, AreTaken, AreWithin, BeginsBehind, BlamesAll, Bound, IsAfter, IsBefore, IsTaken, Reading, Standing, all_read_on, are_last, cuts_before, fresh, front, behind, is_past, least_last, moved_to, next_place, nothing, outputs_of, part_taken, pieces_of, place_for, taken_on, text_taken, whole_window}
 use Rattle.mr_shards.proofs.ReadingLemmas.{lines-none}
 use Rattle.mr_shards.proofs.LineLaws.{output-of_all}
 use Rattle.mr_shards.proofs.CutLemmas.{AreEnding, bounds, cut-of, ending-for}
 use Rattle.mr_shards.proofs.TurnLemmas.{Suits, after-place, both-true, still-taken, text-on, wholes, within-place, within-whole}
-use Rattle.mr_shards.specs.Portions.{merged_portions, past_files, shifted_group}
+use Rattle.mr_shards.specs.Portions.{merged_portions, past_shard, shifted_group}
 use Rattle.mr_shards.proofs.BlameLemmas.{AreClosing, blames-so}
 
 -- ---- nothing is taken yet
@@ -30,35 +32,36 @@ none-before : (gs : List Group) → BeginsBehind None gs
 none-before [] = tt
 none-before (g ∷ gs) = λ low. low
 
-fresh-taken : (job : JobSpec) (files : ℕ) (r : Reading) → r.output.files ≡ files → r.taken ≡ 0 → IsTaken job None (fresh files) r
+fresh-taken : (job : JobSpec) (files : ShardFiles) (r : Reading) → r.output.files ≡ files → r.taken ≡ 0 → IsTaken job None (fresh files) r
 fresh-taken job files r e none =
     let read : groups_in job (front r) ≡ [] = ap (groups_in job) (none-front r none) ∙ no-groups job in
     record {
       files = sym e;
       within = omega (arith, none);
       stands = record { groups = []; text_is = none-front r none; lines = tt; in_turn = tt };
+      own = subst (AllByRecursion (λ (g : Group). AreInFiles r.output.files.count g.values)) (sym read) tt;
       before = subst (AllByRecursion (λ (g : Group). IsBefore None g.key)) (sym read) tt;
       next = none-before (groups_in job (behind r));
       count = ap (λ (gs : List Group). length gs % 2 ^ 64) (sym read);
       together = λ _. tt;
     }
 
-pub fresh-after : (job : JobSpec) (files : List ℕ) (rs : List Reading) → AreFresh files rs → AreTaken job None (map fresh files) rs
+pub fresh-after : (job : JobSpec) (files : List ShardFiles) (rs : List Reading) → AreFresh files rs → AreTaken job None (map fresh files) rs
 fresh-after job [] [] f = tt
 fresh-after job [] (r ∷ rs) f = absurd f
 fresh-after job (n ∷ files) [] f = absurd f
 fresh-after job (n ∷ files) (r ∷ rs) f = (fresh-taken job n r f.0 f.1, fresh-after job files rs f.2)
 
-fresh-parts : (job : JobSpec) (files : List ℕ) (rs : List Reading) → AreFresh files rs → merged_portions (map (part_taken job) rs) ≡ []
+fresh-parts : (job : JobSpec) (files : List ShardFiles) (rs : List Reading) → AreFresh files rs → merged_portions (map (part_taken job) rs) ≡ []
 fresh-parts job [] [] f = refl
 fresh-parts job [] (r ∷ rs) f = absurd f
 fresh-parts job (n ∷ files) [] f = absurd f
 fresh-parts job (n ∷ files) (r ∷ rs) f =
     let read : groups_in job (front r) ≡ [] = ap (groups_in job) (none-front r f.1) ∙ no-groups job in
     let rest : merged_portions (map (part_taken job) rs) ≡ [] = fresh-parts job files rs f.2 in
-    λ i. merged (read i) (map (shifted_group (past_files r.output.files)) (rest i))
+    λ i. merged (read i) (map (shifted_group (past_shard r.output.files)) (rest i))
 
-pub fresh-text : (job : JobSpec) (files : List ℕ) (rs : List Reading) → AreFresh files rs → text_taken job rs ≡ []
+pub fresh-text : (job : JobSpec) (files : List ShardFiles) (rs : List Reading) → AreFresh files rs → text_taken job rs ≡ []
 fresh-text job files rs f = ap (texts job) (fresh-parts job files rs f)
 
 -- ---- cuts close their pieces

@@ -13,7 +13,7 @@ use Rattle.mr_shards.specs.Views.{group_of}
 use Rattle.mr_shards.specs.Cursors.{left, Goes}
 use Rattle.mr_shards.specs.Refused.{Overflows, total_of, values_among, values_with}
 use Rattle.mr_shards.specs.Outputs.{parts_in}
-use Rattle.mr_shards.specs.Portions.{Shift, behind, no_shift, past_files, shifted_group, shifted_parts, shifted_value}
+use Rattle.mr_shards.specs.Portions.{Shift, behind, no_shift, past_shard, shifted_group, shifted_parts, shifted_value}
 use Rattle.mr_shards.proofs.StepLemmas.{Step}
 
 -- the values that one group has for a key
@@ -54,7 +54,7 @@ among-shifted : (key : List ℕ) (job : JobSpec) (s : Shift) (os : List ShardTex
 unfolding values_among
 among-shifted key job s [] = refl
 among-shifted key job s (o ∷ os) =
-    let next : Shift = behind s (past_files o.files) in
+    let next : Shift = behind s (past_shard o.files) in
     ap (λ k. k + values_among key (shifted_parts next (parts_in job os))) (with-shifted key s (groups_in job o.text.now))
     ∙ ap (λ k. values_with key (groups_in job o.text.now) + k) (among-shifted key job next os)
 

@@ -6,13 +6,14 @@ use Rattle.std.proofs.Math.Seq.{drop-append-add, take-add}
 use Rattle.std.specs.List.{AllByRecursion}
 use Rattle.mr_jobs.specs.JobSpec.{JobSpec, counts}
 use Rattle.mr_sequential.proofs.SourceLemmas.{flat_map-append}
+use Rattle.mr_shards.specs.declared.shift.ShardFiles.{ShardFiles}
 use Rattle.mr_shards.specs.declared.merger.ShardText.{ShardText}
 use Rattle.mr_shards.specs.declared.window.Held.{Held}
 use Rattle.mr_shards.specs.declared.window.Window.{Window}
 use Rattle.mr_shards.specs.Merged.{Group, group_text, texts}
 use Rattle.mr_shards.specs.Lines.{group_in, groups_in, lines}
 use Rattle.mr_shards.specs.Outputs.{parts_in}
-use Rattle.mr_shards.specs.Refused.{InTurn, IsLineOf, IsRest, MayFollow}
+use Rattle.mr_shards.specs.Refused.{AreInFiles, InTurn, IsLineOf, IsRest, IsShardText, MayFollow, TellsFiles}
 use Rattle.mr_shards.specs.Pieces.{AreTaken, AreWindows, AreWithin, BeginsBehind, Bound, IsBefore, IsTaken, IsWindow, PartsNoKey, Reading, all_read_on, are_last, behind, cut_before, cuts_before, front, is_past, next_bound, next_place, nothing, outputs_of, part_taken, pieces_of, read_on, taken_on, text_taken, told, whole_window}
 use Rattle.mr_shards.proofs.MergedLaws.{keys}
 use Rattle.mr_shards.proofs.ReadingLemmas.{one_reading}
@@ -21,7 +22,7 @@ use Rattle.mr_shards.proofs.StepLemmas.{all-append, all-map}
 use Rattle.mr_shards.proofs.PlaceLemmas.{down, follows, next-before, past-before, past-next, strict, strict-before, strict-next}
 use Rattle.mr_shards.proofs.WovenLaws.{IsRead, woven, woven-all, woven-text, woven_parts}
 use Rattle.mr_shards.proofs.ApartLaws.{High, Low, all-keys, all-moved, high-strict, woven-apart}
-use Rattle.mr_shards.specs.Portions.{merged_portions, past_files, shifted_group}
+use Rattle.mr_shards.specs.Portions.{merged_portions, past_shard, shifted_group}
 use Rattle.mr_shards.proofs.CutLemmas.{AreEnding, Ends, IsCut, begins, cut-of, groups-before}
 
 -- ---- texts of lines
@@ -94,7 +95,7 @@ abbrev pub IsPiece : Held → Window → ℕ → ShardText → Type 0
 IsPiece h w n o = told o ≡ (h.files, take n w.bytes.now)
 
 pub piece-text : (h : Held) (w : Window) (n : ℕ) (o : ShardText) → IsPiece h w n o → o.text.now ≡ take n w.bytes.now
-piece-text h w n o e = ap (λ (p : ℕ × List ℕ). p.1) e
+piece-text h w n o e = ap (λ (p : ShardFiles × List ℕ). p.1) e
 
 abbrev pub on : Reading → ℕ → Reading
 on r n = record { output = r.output; taken = r.taken + n }
@@ -114,10 +115,13 @@ module _ (job : JobSpec) (b : Option Bound) (h : Held) (r : Reading) (w : Window
   pub whole-text : r.output.text.now ≡ front r ++ (o.text.now ++ (drop n w.bytes.now ++ v.more))
   whole-text = sym (take-append-drop r.taken r.output.text.now) ∙ ap (λ (l : List ℕ). front r ++ l) behind-on
 
+  files-on : o.files ≡ r.output.files
+  files-on = ap (λ (p : ShardFiles × List ℕ). p.0) piece ∙ t.files
+
   groups-on : groups_in job (front (on r n)) ≡ groups_in job (front r) ++ groups_in job o.text.now
   groups-on = ap (groups_in job) front-on ∙ rest-join job None (front r) o.text.now t.stands
 
-  module _ (stands : IsRest job None o.text.now) where
+  module _ (stands : IsRest job None o.text.now) (own : TellsFiles job o.files.count o.text.now) where
     next-on : BeginsBehind (next_bound b) (groups_in job o.text.now)
     next-on =
         begins-front (next_bound b) (groups_in job o.text.now) (groups_in job (drop n w.bytes.now ++ v.more))
@@ -139,6 +143,13 @@ module _ (job : JobSpec) (b : Option Bound) (h : Held) (r : Reading) (w : Window
           stands.in_turn (subst (BeginsBehind (next_bound b)) (rest-groups job None o.text.now stands) next-on);
     }
 
+    own-on : TellsFiles job r.output.files.count (front (on r n))
+    own-on =
+        let fine : Group → Type 0 = λ g. AreInFiles r.output.files.count g.values in
+        subst (AllByRecursion fine) (sym groups-on)
+        (all-append fine (groups_in job (front r)) (groups_in job o.text.now) t.own
+        (subst (λ (f : ShardFiles). TellsFiles job f.count o.text.now) files-on own))
+
     count-on : (read_on h (take n w.bytes.now)).lines ≡ length (groups_in job (front (on r n))) % 2 ^ 64
     count-on =
         ap (λ k. (k + length (lines (take n w.bytes.now))) % 2 ^ 64) t.count
@@ -159,6 +170,7 @@ module _ (job : JobSpec) (b : Option Bound) (h : Held) (r : Reading) (w : Window
       files = t.files;
       within = within-on;
       stands = stands-on;
+      own = own-on;
       before = subst (AllByRecursion (λ (g : Group). IsBefore (Some p) g.key)) (sym groups-on)
           (all-append (λ (g : Group). IsBefore (Some p) g.key) (groups_in job (front r)) (groups_in job o.text.now)
           (all-map (λ (g : Group). IsBefore b g.key) (λ (g : Group). IsBefore (Some p) g.key) (groups_in job (front r)) (λ g l. past g.key l) t.before)
@@ -175,14 +187,16 @@ module _ (job : JobSpec) (b : Option Bound) (h : Held) (r : Reading) (w : Window
       pub high : High (next_bound b) (groups_in job o.text.now)
       pub files : o.files ≡ r.output.files
       pub stands_on : IsRest job None (front (on r n))
+      pub own_on : TellsFiles job r.output.files.count (front (on r n))
 
     pub grows : Grows
     grows = record {
       groups = groups-on;
       low = all-keys (IsBefore b) (groups_in job (front r)) t.before;
       high = high-on;
-      files = ap (λ (p : ℕ × List ℕ). p.0) piece ∙ t.files;
+      files = files-on;
       stands_on = stands-on;
+      own_on = own-on;
     }
 
     -- all of the output, where the window is the last one
@@ -200,7 +214,7 @@ pub rest-of : {X : Type 0} (x y : X) (xs ys : List X) → x ∷ xs ≡ y ∷ ys 
 rest-of x y xs ys e = ap (λ l. drop 1 l) e
 
 abbrev pub AllStand : JobSpec → List ShardText → Type 0
-AllStand job os = AllByRecursion (λ (o : ShardText). IsRest job None o.text.now) os
+AllStand job os = AllByRecursion (IsShardText job) os
 
 abbrev pub woven_taken : JobSpec → List Reading → List Group
 woven_taken job rs = woven_parts (counts job) (map (part_taken job) rs)
@@ -214,17 +228,17 @@ pub record Sums (job : JobSpec) (b : Option Bound) (rs : List Reading) (cs : Lis
   pub low : Low b (woven_taken job rs)
   pub high : High (strict b) (woven_in job os)
 
-sum-more : (job : JobSpec) (b : Option Bound) (gs hs new : List Group) (xs ys all : List Group) (files files' : ℕ) → Suits job b → new ≡ gs ++ hs
+sum-more : (job : JobSpec) (b : Option Bound) (gs hs new : List Group) (xs ys all : List Group) (files files' : ShardFiles) → Suits job b → new ≡ gs ++ hs
     → all ≡ xs ++ ys → files' ≡ files
     → Low b gs → High (next_bound b) hs → Low (next_bound b) xs → High (strict b) ys
-    → woven (counts job) new (map (shifted_group (past_files files)) all)
-    ≡ woven (counts job) gs (map (shifted_group (past_files files)) xs) ++ woven (counts job) hs (map (shifted_group (past_files files')) ys)
+    → woven (counts job) new (map (shifted_group (past_shard files)) all)
+    ≡ woven (counts job) gs (map (shifted_group (past_shard files)) xs) ++ woven (counts job) hs (map (shifted_group (past_shard files')) ys)
 sum-more job b gs hs new xs ys all files files' suits e s same lg hh lx hy =
-    (λ i. woven (counts job) (e i) (map (shifted_group (past_files files)) (s i)))
-    ∙ ap (woven (counts job) (gs ++ hs)) (map-append (shifted_group (past_files files)) xs ys)
-    ∙ woven-apart job b suits gs hs (map (shifted_group (past_files files)) xs) (map (shifted_group (past_files files)) ys) lg hh
-    (all-moved (IsBefore (next_bound b)) files xs lx) (all-moved (λ k. IsBefore (strict b) k → ⊥) files ys hy)
-    ∙ ap (λ k. woven (counts job) gs (map (shifted_group (past_files files)) xs) ++ woven (counts job) hs (map (shifted_group (past_files k)) ys)) (sym same)
+    (λ i. woven (counts job) (e i) (map (shifted_group (past_shard files)) (s i)))
+    ∙ ap (woven (counts job) (gs ++ hs)) (map-append (shifted_group (past_shard files)) xs ys)
+    ∙ woven-apart job b suits gs hs (map (shifted_group (past_shard files)) xs) (map (shifted_group (past_shard files)) ys) lg hh
+    (all-moved (IsBefore (next_bound b)) (past_shard files) xs lx) (all-moved (λ k. IsBefore (strict b) k → ⊥) (past_shard files) ys hy)
+    ∙ ap (λ (f : ShardFiles). woven (counts job) gs (map (shifted_group (past_shard files)) xs) ++ woven (counts job) hs (map (shifted_group (past_shard f)) ys)) (sym same)
 
 read-taken : (job : JobSpec) (b : Option Bound) (hs : List Held) (rs : List Reading) → AreTaken job b hs rs → AllByRecursion (IsRead job) (map (part_taken job) rs)
 read-taken job b [] [] t = tt
@@ -234,7 +248,7 @@ read-taken job b (h ∷ hs) (r ∷ rs) t = ((front r, t.0.stands, refl), read-ta
 
 read-in : (job : JobSpec) (os : List ShardText) → AllStand job os → AllByRecursion (IsRead job) (parts_in job os)
 read-in job [] all = tt
-read-in job (o ∷ os) all = ((o.text.now, all.0, refl), read-in job os all.1)
+read-in job (o ∷ os) all = ((o.text.now, all.0.0, refl), read-in job os all.1)
 
 module _ (job : JobSpec) where
   pub sums : (b : Option Bound) (hs : List Held) (rs : List Reading) (ws : List Window) (cs : List ℕ) (os : List ShardText) → AreTaken job b hs rs
@@ -250,7 +264,7 @@ module _ (job : JobSpec) where
   sums b (h ∷ hs) (r ∷ rs) (w ∷ ws) [] os t v fits e all = absurd fits
   sums b (h ∷ hs) (r ∷ rs) (w ∷ ws) (c ∷ cs) [] t v fits e all = absurd (cc e)
   sums b (h ∷ hs) (r ∷ rs) (w ∷ ws) (c ∷ cs) (o ∷ os) t v fits e all =
-      let g = grows job b h r w c o t.0 v.0 fits.0 (first-of (told o) (h.files, take c w.bytes.now) (map told os) (pieces_of hs ws cs) e) all.0 in
+      let g = grows job b h r w c o t.0 v.0 fits.0 (first-of (told o) (h.files, take c w.bytes.now) (map told os) (pieces_of hs ws cs) e) all.0.0 all.0.1 in
       let s = sums (next_bound b) hs rs ws cs os t.1 v.1 fits.1 (rest-of (told o) (h.files, take c w.bytes.now) (map told os) (pieces_of hs ws cs) e) all.1 in
       let xs : List Group = woven_taken job rs in
       let ys : List Group = woven_in job os in
@@ -259,11 +273,11 @@ module _ (job : JobSpec) where
         woven_is = sum-more job b (groups_in job (front r)) (groups_in job o.text.now) (groups_in job (front (on r c))) xs ys
             (woven_taken job (taken_on cs rs)) r.output.files o.files t.0.together g.groups s.woven_is g.files g.low g.high s.low high;
         parts_read = ((front (on r c), g.stands_on, refl), s.parts_read);
-        low = woven-all (counts job) (IsBefore b) (groups_in job (front r)) (map (shifted_group (past_files r.output.files)) xs) g.low
-            (all-moved (IsBefore b) r.output.files xs (all-map (IsBefore (next_bound b)) (IsBefore b) (keys xs) (λ k low. next-before b k low) s.low));
-        high = woven-all (counts job) (λ k. IsBefore (strict b) k → ⊥) (groups_in job o.text.now) (map (shifted_group (past_files o.files)) ys)
+        low = woven-all (counts job) (IsBefore b) (groups_in job (front r)) (map (shifted_group (past_shard r.output.files)) xs) g.low
+            (all-moved (IsBefore b) (past_shard r.output.files) xs (all-map (IsBefore (next_bound b)) (IsBefore b) (keys xs) (λ k low. next-before b k low) s.low));
+        high = woven-all (counts job) (λ k. IsBefore (strict b) k → ⊥) (groups_in job o.text.now) (map (shifted_group (past_shard o.files)) ys)
             (high-strict b (groups_in job o.text.now) g.high)
-            (all-moved (λ k. IsBefore (strict b) k → ⊥) o.files ys high);
+            (all-moved (λ k. IsBefore (strict b) k → ⊥) (past_shard o.files) ys high);
       }
 
   pub text-on : (b : Option Bound) (hs : List Held) (rs : List Reading) (ws : List Window) (cs : List ℕ) (os : List ShardText) → AreTaken job b hs rs
@@ -294,7 +308,7 @@ module _ (job : JobSpec) where
       let cut = cut-of p w in
       let here = first-of (told o) (h.files, take (cut_before p w) w.bytes.now) (map told os) (pieces_of hs ws cs) e in
       let more = rest-of (told o) (h.files, take (cut_before p w) w.bytes.now) (map told os) (pieces_of hs ws cs) e in (
-        taken-next job b h r w (cut_before p w) o t.0 v.0 cut.parts.within here all.0 p cut ends.0 suits (past-before b p past),
+        taken-next job b h r w (cut_before p w) o t.0 v.0 cut.parts.within here all.0.0 all.0.1 p cut ends.0 suits (past-before b p past),
         after-place (next_bound b) (next_place p) hs rs ws os (past-next b p past) (suits-next job (Some p) suits) t.1 v.1 more all.1 ends.1,
       )
 
@@ -317,12 +331,12 @@ within-place p [] = tt
 within-place p (w ∷ ws) = ((cut-of p w).parts.within, within-place (next_place p) ws)
 
 pub record Wholes (job : JobSpec) (rs : List Reading) (ws : List Window) : Type 0 where
-  pub stands : AllByRecursion (λ (o : ShardText). IsRest job None o.text.now) (outputs_of rs)
+  pub stands : AllByRecursion (IsShardText job) (outputs_of rs)
   pub parts_are : map (part_taken job) (taken_on (map whole_window ws) rs) ≡ parts_in job (outputs_of rs)
 
 pub wholes : (job : JobSpec) (b : Option Bound) (hs : List Held) (rs : List Reading) (ws : List Window) (os : List ShardText) → AreTaken job b hs rs
     → AreWindows rs ws
-    → map told os ≡ pieces_of hs ws (map whole_window ws) → AllByRecursion (λ (o : ShardText). IsRest job None o.text.now) os → are_last ws ≡ true
+    → map told os ≡ pieces_of hs ws (map whole_window ws) → AllByRecursion (IsShardText job) os → are_last ws ≡ true
     → Wholes job rs ws
 wholes job b [] [] [] [] t v e all last = record { stands = tt; parts_are = refl }
 wholes job b [] [] [] (o ∷ os) t v e all last = absurd (cc e)
@@ -337,11 +351,11 @@ wholes job b (h ∷ hs) (r ∷ rs) (w ∷ ws) (o ∷ os) t v e all last =
     let more = rest-of (told o) (h.files, take (whole_window w) w.bytes.now) (map told os) (pieces_of hs ws (map whole_window ws)) e in
     let s = wholes job (next_bound b) hs rs ws os t.1 v.1 more all.1 both.1 in
     let fits : whole_window w ≤ length w.bytes.now = omega arith in
-    let is : front (on r (whole_window w)) ≡ r.output.text.now = whole-on job b h r w (whole_window w) o t.0 v.0 fits here all.0 refl both.0 in
-    let one : IsRest job None (front (on r (whole_window w))) = (grows job b h r w (whole_window w) o t.0 v.0 fits here all.0).stands_on in
+    let is : front (on r (whole_window w)) ≡ r.output.text.now = whole-on job b h r w (whole_window w) o t.0 v.0 fits here all.0.0 all.0.1 refl both.0 in
+    let g = grows job b h r w (whole_window w) o t.0 v.0 fits here all.0.0 all.0.1 in
     record {
-      stands = (subst (IsRest job None) is one, s.stands);
-      parts_are = λ i. record { shift = past_files r.output.files; groups = groups_in job (is i) } ∷ s.parts_are i;
+      stands = ((subst (IsRest job None) is g.stands_on, subst (TellsFiles job r.output.files.count) is g.own_on), s.stands);
+      parts_are = λ i. record { shift = past_shard r.output.files; groups = groups_in job (is i) } ∷ s.parts_are i;
     }
 
 -- ---- nothing taken

@@ -12,7 +12,7 @@ use Rattle.mr_shards.specs.Merged.{Group, group_text, joined, with_group}
 use Rattle.mr_shards.specs.Lines.{groups_in}
 use Rattle.mr_shards.specs.declared.merger.MergeFault.{MergeFault}
 use Rattle.mr_shards.specs.Refused.{BlamesOnly, IsReadOf, IsRestOf, last_key}
-use Rattle.mr_shards.specs.Portions.{past_files, shifted_group}
+use Rattle.mr_shards.specs.Portions.{shifted_group}
 use Rattle.mr_shards.specs.Views.{group_of, IsFor, IsPlace, IsSameKind}
 
 -- the key of a line is not before that of the last one
@@ -27,7 +27,7 @@ headed (Some l) gs = group_of l ∷ gs
 
 -- what is left of a shard's output
 abbrev pub left : JobSpec → Cursor → List Group
-left job c = headed c.head (map (shifted_group (past_files c.before)) (groups_in job c.rest.now))
+left job c = headed c.head (map (shifted_group c.before) (groups_in job c.rest.now))
 
 -- of two lines the one with the lesser key, and of equal keys the first
 abbrev pub lesser : Option (ℕ × Line) → ℕ → Option Line → Option (ℕ × Line)
@@ -112,15 +112,15 @@ pub record ReadsOn (job : JobSpec) (at : ℕ) (old new : List Cursor) : Type 0 w
   pub next : Cursor
   pub was : slice_index_or old at one ≡ one
   pub set : new ≡ slice_set old at next
-  pub left : left job next ≡ map (shifted_group (past_files one.before)) (groups_in job one.rest.now)
+  pub left : left job next ≡ map (shifted_group one.before) (groups_in job one.rest.now)
   pub kind : IsHeadFor job next
   pub order : IfSome next.head (λ l. DoesNotFall one.head l)
   pub behind : IsRestOf job next → IsRestOf job one
   pub read : (text : List ℕ) → IsReadOf job text one → IsReadOf job text next
-  pub before : next.before ≡ one.before
+  pub files : (next.before ≡ one.before) × (next.count ≡ one.count)
 
 -- a line of the cursor's shard is blamed, or none
 pub record BlamesAt (job : JobSpec) (at : ℕ) (cs : List Cursor) (e : MergeFault) : Type 0 where
   pub one : Cursor
   pub is : slice_index_or cs at one ≡ one
-  pub blames : BlamesOnly job at one.before (last_key one.head) one.rest.now one.lines e
+  pub blames : BlamesOnly job at one.count one.before (last_key one.head) one.rest.now one.lines e

@@ -11,7 +11,7 @@ use Rattle.mr_shards.specs.Outputs.{IsOutputOfAll, parts_in}
 use Rattle.mr_shards.specs.declared.joining.JoinFault.{JoinFault}
 use Rattle.mr_shards.specs.declared.joining.JoinFault.TheVariants.{OtherRequest, TooManySplits, TooManyPairs, OutOfMemory}
 use Rattle.mr_shards.specs.Verdict.{Note, Told}
-use Rattle.mr_shards.specs.Portions.{merged_portions}
+use Rattle.mr_shards.specs.Portions.{merged_portions, past_files, past_shard}
 use Rattle.mr_shards.specs.Spots.{moved_name}
 use Rattle.mr_shards.specs.Truth.{AreNotesOf, Asks, IsTrueOf}
 
@@ -109,10 +109,10 @@ AreTrueOf request [] [] [] = Unit {0}
 AreTrueOf request (v ∷ vs) (fs ∷ fss) (ps ∷ pss) = IsTrueOf request v fs ps × AreTrueOf request vs fss pss
 AreTrueOf request _ _ _ = ⊥
 
--- what the shards have for a partition, and how many files each has
+-- what the shards have for a partition; the files of each are whole
 abbrev pub AreOutputsAt : ℕ → List Told → List (List (List ℕ)) → List ShardText → Type 0
 AreOutputsAt p [] [] [] = Unit {0}
-AreOutputsAt p (v ∷ vs) (ps ∷ pss) (o ∷ os) = (o.files ≡ length v.inputs) × (o.text.now ≡ nth_file ps p) × AreOutputsAt p vs pss os
+AreOutputsAt p (v ∷ vs) (ps ∷ pss) (o ∷ os) = (past_shard o.files ≡ past_files (length v.inputs)) × (o.text.now ≡ nth_file ps p) × AreOutputsAt p vs pss os
 AreOutputsAt p _ _ _ = ⊥
 
 -- the output of a partition is the text of the merged groups of the shards' outputs, and whatever judged shards those are

@@ -1,5 +1,5 @@
 -- The outputs that shards have for one partition.
-use Rattle.std.specs.Prelude.{◌≡◌, ℕ, ◌<◌, ◌^◌, false, List, [], ◌∷◌, None, length, map}
+use Rattle.std.specs.Prelude.{◌≡◌, ℕ, ◌<◌, ◌^◌, false, List, [], ◌∷◌, length, map}
 use Rattle.std.specs.List.{AllByRecursion}
 use Rattle.mr_jobs.specs.JobSpec.{JobSpec, RequestSpec}
 use Rattle.mr_sequential.specs.Emitted.{emitted}
@@ -8,13 +8,13 @@ use Rattle.mr_shards.specs.declared.cursor.Cursor.{Cursor}
 use Rattle.mr_shards.specs.declared.merger.ShardText.{ShardText}
 use Rattle.mr_shards.specs.Lines.{groups_in, NoneFalls}
 use Rattle.mr_shards.specs.Cursors.{IsHeadFor, left}
-use Rattle.mr_shards.specs.Refused.{AreRead, IsRest, IsRestOf}
-use Rattle.mr_shards.specs.Portions.{Part, Portion, no_shift, past_files, shifted_parts, whole_of}
+use Rattle.mr_shards.specs.Refused.{AreRead, IsRestOf, IsShardText}
+use Rattle.mr_shards.specs.Portions.{AreCutAtLines, Part, Portion, no_shift, past_shard, shift_of, shifted_parts, whole_of}
 use Rattle.mr_shards.specs.Spots.{SkipsExist, left_out_of}
 
 -- the part that an output is read as
 abbrev pub part_in : JobSpec → ShardText → Part
-part_in job o = record { shift = past_files o.files; groups = groups_in job o.text.now }
+part_in job o = record { shift = past_shard o.files; groups = groups_in job o.text.now }
 
 abbrev pub parts_in : JobSpec → List ShardText → List Part
 parts_in job os = map (part_in job) os
@@ -29,7 +29,7 @@ abbrev pub AreOpened : JobSpec → List Cursor → List ShardText → Type 0
 AreOpened job [] [] = Unit {0}
 AreOpened job [] (o ∷ os) = ⊥
 AreOpened job (c ∷ cs) [] = ⊥
-AreOpened job (c ∷ cs) (o ∷ os) = (Stands job c → IsRest job None o.text.now) × AreOpened job cs os
+AreOpened job (c ∷ cs) (o ∷ os) = (Stands job c → IsShardText job o) × AreOpened job cs os
 
 -- the cursors stand at the first lines of the outputs
 pub record AreAtFirst (job : JobSpec) (cs : List Cursor) (os : List ShardText) : Type 0 where
@@ -46,15 +46,16 @@ pub record IsJudged (request : RequestSpec) (s : Portion) : Type 0 where
   pub few_files : length s.files < 2 ^ 64
   pub small_files : AllByRecursion (λ f. length f < 2 ^ 64) s.files
 
--- each output is that of the sequential execution over its shard, which is a portion of whole files
+-- each output is that of the sequential execution over its shard, a portion of the input
 abbrev pub AreOutputsOf : RequestSpec → ℕ → List Portion → List ShardText → Type 0
 AreOutputsOf request p [] [] = Unit {0}
 AreOutputsOf request p [] (o ∷ os) = ⊥
 AreOutputsOf request p (s ∷ ss) [] = ⊥
-AreOutputsOf request p (s ∷ ss) (o ∷ os) = (s.cut ≡ false) × (o.files ≡ length s.files) × (o.text.now ≡ sequential request s.files s.skips p) × AreOutputsOf request p ss os
+AreOutputsOf request p (s ∷ ss) (o ∷ os) = (past_shard o.files ≡ shift_of s) × (o.text.now ≡ sequential request s.files s.skips p) × AreOutputsOf request p ss os
 
--- whatever shards the outputs are of, the text is the output of the sequential execution over all their files
+-- whatever shards the outputs are of, the text is the output of the sequential execution over all their files, those that
+-- were cut whole again
 abbrev pub IsOutputOfAll : JobSpec → List ShardText → List ℕ → Type 0
-IsOutputOfAll job outputs text = (request : RequestSpec) (shards : List Portion) (p : ℕ) → job ≡ request.job → 0 < request.split
+IsOutputOfAll job outputs text = (request : RequestSpec) (shards : List Portion) (p : ℕ) → job ≡ request.job → 0 < request.split → AreCutAtLines shards
     → AllByRecursion (IsJudged request) shards → AreOutputsOf request p shards outputs
     → text ≡ sequential request (whole_of shards) (left_out_of request.split shards) p

@@ -5,15 +5,16 @@ use Rattle.std.specs.Ordering.{is_lt, match_ordering}
 use Rattle.mr_bytes.specs.Order.{key_order}
 use Rattle.mr_jobs.specs.JobSpec.{JobSpec, counts}
 use Rattle.mr_shards.specs.declared.merger.MergeFault.{MergeFault}
-use Rattle.mr_shards.specs.declared.merger.MergeFault.TheVariants.{BadLine, TotalTooLarge, TooManyFiles, OutOfMemory}
+use Rattle.mr_shards.specs.declared.merger.MergeFault.TheVariants.{BadLine, TotalTooLarge, TooManyFiles, NoSuchFile, PlaceTooFar, OutOfMemory}
+use Rattle.mr_shards.specs.declared.shift.ShardFiles.{ShardFiles}
 use Rattle.mr_shards.specs.declared.merger.ShardText.{ShardText}
 use Rattle.mr_shards.specs.declared.window.Held.{Held}
 use Rattle.mr_shards.specs.declared.window.Window.{Window}
 use Rattle.mr_shards.specs.Merged.{Group, texts}
 use Rattle.mr_shards.specs.Lines.{EndsLine, before_last, groups_in, lines}
 use Rattle.mr_shards.specs.Outputs.{IsOutputOfAll, parts_in}
-use Rattle.mr_shards.specs.Portions.{Part, merged_portions, past_files}
-use Rattle.mr_shards.specs.Refused.{Blames, IsRest}
+use Rattle.mr_shards.specs.Portions.{Part, merged_portions, past_shard}
+use Rattle.mr_shards.specs.Refused.{Blames, IsRest, IsShardText, TellsFiles}
 
 -- a place among the merged lines: all lines with lesser keys are before it, and of those with this key all of the first shards,
 -- so many, but of the last of these only some; where it is of no shards, it is before all lines with this key
@@ -21,17 +22,20 @@ pub record Bound : Type 0 where
   pub key : List ℕ
   pub shards : ℕ
 
--- what a merger keeps: of each shard how many files it has and how many lines of its output were taken, which has 64 bits;
+-- what a merger keeps: of each shard its files and how many lines of its output were taken, which has 64 bits;
 -- and a place that all lines taken are before, or none where nothing was taken
 pub record Standing : Type 0 where
   pub held : List Held
   pub bound : Option Bound
 
-abbrev pub fresh : ℕ → Held
+abbrev pub no_files : ShardFiles
+no_files = record { count = 0; cut = None }
+
+abbrev pub fresh : ShardFiles → Held
 fresh files = record { files = files; lines = 0 }
 
 -- nothing is taken yet
-abbrev pub fresh_all : List ℕ → Standing
+abbrev pub fresh_all : List ShardFiles → Standing
 fresh_all files = record { held = map fresh files; bound = None }
 
 -- a shard's output, and how many of its bytes were taken
@@ -40,7 +44,7 @@ pub record Reading : Type 0 where
   pub taken : ℕ
 
 -- an output with these bytes
-abbrev pub output_with : ℕ → List ℕ → ShardText
+abbrev pub output_with : ShardFiles → List ℕ → ShardText
 output_with files text = record { files = files; text = record { ref_ptr = (0, 0); now = text } }
 
 abbrev pub outputs_of : List Reading → List ShardText
@@ -55,7 +59,7 @@ behind r = drop r.taken r.output.text.now
 
 -- the part that was taken, and the text of all
 abbrev pub part_taken : JobSpec → Reading → Part
-part_taken job r = record { shift = past_files r.output.files; groups = groups_in job (front r) }
+part_taken job r = record { shift = past_shard r.output.files; groups = groups_in job (front r) }
 
 abbrev pub text_taken : JobSpec → List Reading → List ℕ
 text_taken job rs = texts job (merged_portions (map (part_taken job) rs))
@@ -92,12 +96,13 @@ abbrev pub PartsNoKey : Option Bound → Type 0
 PartsNoKey None = Unit {0}
 PartsNoKey (Some b) = b.shards ≡ 0
 
--- lines of the job with keys in turn were taken of the first shard, so many; each is before the bound, and the next one would
+-- lines of the job with keys in turn, and places in the shard's own files, were taken of the first shard, so many; each is before the bound, and the next one would
 -- not be so in the next shard; of a job that counts, a key's lines are taken together
 pub record IsTaken (job : JobSpec) (bound : Option Bound) (h : Held) (r : Reading) : Type 0 where
   pub files : h.files ≡ r.output.files
   pub within : r.taken ≤ length r.output.text.now
   pub stands : IsRest job None (front r)
+  pub own : TellsFiles job r.output.files.count (front r)
   pub before : AllByRecursion (λ (g : Group). IsBefore bound g.key) (groups_in job (front r))
   pub next : BeginsBehind (next_bound bound) (groups_in job (behind r))
   pub count : h.lines ≡ length (groups_in job (front r)) % 2 ^ 64
@@ -213,12 +218,12 @@ AreLines [] (w ∷ ws) = ⊥
 AreLines (c ∷ cs) [] = ⊥
 AreLines (c ∷ cs) (w ∷ ws) = (c ≤ length w.bytes.now) × EndsLine (take c w.bytes.now) × AreLines cs ws
 
--- the pieces that are cut off: how many files each shard has, and the bytes
-abbrev pub pieces_of : List Held → List Window → List ℕ → List (ℕ × List ℕ)
+-- the pieces that are cut off: the files of each shard, and the bytes
+abbrev pub pieces_of : List Held → List Window → List ℕ → List (ShardFiles × List ℕ)
 pieces_of (h ∷ hs) (w ∷ ws) (c ∷ cs) = (h.files, take c w.bytes.now) ∷ pieces_of hs ws cs
 pieces_of _ _ _ = []
 
-abbrev pub told : ShardText → ℕ × List ℕ
+abbrev pub told : ShardText → ShardFiles × List ℕ
 told o = (o.files, o.text.now)
 
 -- more lines were taken
@@ -231,19 +236,21 @@ all_read_on _ _ _ = []
 
 -- the line's number in the whole output
 abbrev pub numbered : List Held → MergeFault → MergeFault
-numbered hs (BadLine shard line) = BadLine shard (((slice_index_or hs shard (fresh 0)).lines + line) % 2 ^ 64)
+numbered hs (BadLine shard line) = BadLine shard (((slice_index_or hs shard (fresh no_files)).lines + line) % 2 ^ 64)
 numbered hs TotalTooLarge = TotalTooLarge
 numbered hs TooManyFiles = TooManyFiles
+numbered hs (NoSuchFile shard) = NoSuchFile shard
+numbered hs PlaceTooFar = PlaceTooFar
 numbered hs OutOfMemory = OutOfMemory
 
 -- the pieces are merged, or refused
-pub record ArePut (job : JobSpec) (pieces : List (ℕ × List ℕ)) (out out' : List ℕ) : Type 0 where
+pub record ArePut (job : JobSpec) (pieces : List (ShardFiles × List ℕ)) (out out' : List ℕ) : Type 0 where
   pub outputs : List ShardText
   pub are : map told outputs ≡ pieces
-  pub stands : AllByRecursion (λ (o : ShardText). IsRest job None o.text.now) outputs
+  pub stands : AllByRecursion (IsShardText job) outputs
   pub out_is : out' ≡ out ++ texts job (merged_portions (parts_in job outputs))
 
-pub record AreBlamed (job : JobSpec) (hs : List Held) (pieces : List (ℕ × List ℕ)) (e : MergeFault) : Type 0 where
+pub record AreBlamed (job : JobSpec) (hs : List Held) (pieces : List (ShardFiles × List ℕ)) (e : MergeFault) : Type 0 where
   pub outputs : List ShardText
   pub are : map told outputs ≡ pieces
   pub fault : MergeFault
@@ -260,8 +267,8 @@ BlamesAll job hs ws e = (bound : Option Bound) (rs : List Reading) → AreTaken 
 abbrev pub moved_to : Standing → List Window → Bound → Standing
 moved_to m ws b = record { held = all_read_on m.held ws (cuts_before b ws); bound = Some b }
 
--- nothing is taken of outputs with so many files
-abbrev pub AreFresh : List ℕ → List Reading → Type 0
+-- nothing is taken of outputs of shards with these files
+abbrev pub AreFresh : List ShardFiles → List Reading → Type 0
 AreFresh [] [] = Unit {0}
 AreFresh [] (r ∷ rs) = ⊥
 AreFresh (f ∷ fs) [] = ⊥
@@ -275,7 +282,7 @@ taken_on (c ∷ cs) (r ∷ rs) = record { output = r.output; taken = r.taken + c
 
 -- the text is that of all outputs, each of which stands
 pub record IsMerged (job : JobSpec) (os : List ShardText) (text : List ℕ) : Type 0 where
-  pub stands : AllByRecursion (λ (o : ShardText). IsRest job None o.text.now) os
+  pub stands : AllByRecursion (IsShardText job) os
   pub text_is : text ≡ texts job (merged_portions (parts_in job os))
   pub whole : IsOutputOfAll job os text
 

@@ -1,5 +1,5 @@
 -- An input that is cut into portions, also within files, and what the merge of the portions' groups is.
-use Rattle.std.specs.Prelude.{◌≡◌, ℕ, ◌+◌, ◌-◌, ◌==◌, Bool, true, if◌then◌else◌, List, [], ◌∷◌, ◌++◌, length, map}
+use Rattle.std.specs.Prelude.{◌≡◌, ℕ, ◌+◌, ◌-◌, ◌==◌, Bool, true, if◌then◌else◌, List, [], ◌∷◌, ◌++◌, Option, None, Some, length, map}
 use Rattle.mr_bytes.specs.declared.RecordName.{RecordName}
 use Rattle.mr_bytes.specs.declared.Value.{Value}
 use Rattle.mr_bytes.specs.declared.Value.TheVariants.{One, At}
@@ -8,6 +8,8 @@ use Rattle.mr_sequential.specs.Rules.{part}
 use Rattle.mr_sequential.specs.Emitted.{emitted}
 use Rattle.mr_shards.specs.Merged.{Group, groups_of, merged}
 use Rattle.mr_shards.specs.Lines.{EndsLine}
+pub use Rattle.mr_shards.specs.declared.shift.Shift.{Shift}
+use Rattle.mr_shards.specs.declared.shift.ShardFiles.{ShardFiles}
 
 -- files that are executed and judged by themselves, with the records left out of them, named as theirs; where it is cut, the
 -- first file of the portion behind goes on with its last file
@@ -48,11 +50,6 @@ AreCutAtLines (s ∷ ss) = (s.cut ≡ true → EndsLine (last_file s.files)) × 
 
 -- ---- places that are moved
 
--- how far places are moved: files by so many, and in the first file by so many bytes
-pub record Shift : Type 0 where
-  pub files : ℕ
-  pub bytes : ℕ
-
 -- behind so many files, none of which goes on
 abbrev pub past_files : ℕ → Shift
 past_files files = record { files = files; bytes = 0 }
@@ -60,6 +57,14 @@ past_files files = record { files = files; bytes = 0 }
 -- behind so many files, the last of them with so many bytes: where the first file goes on with that one, it has its number
 abbrev pub shift_behind : Bool → ℕ → ℕ → Shift
 shift_behind cut files last = if cut then record { files = files - 1; bytes = last } else past_files files
+
+-- the same of the files of a shard
+abbrev pub past_cut : ℕ → Option ℕ → Shift
+past_cut count None = past_files count
+past_cut count (Some last) = record { files = count - 1; bytes = last }
+
+abbrev pub past_shard : ShardFiles → Shift
+past_shard f = past_cut f.count f.cut
 
 -- how far the places of the portions behind are moved
 abbrev pub shift_of : Portion → Shift

@@ -18,22 +18,25 @@ ghost use Rattle.std.specs.Ordering.{is_lt};
 ghost use Rattle.mr_bytes.specs.Order.{key_order};
 ghost use Rattle.mr_shards.specs.Cursors.{AreBeyond, AreBehind, Differs, DoesNotFall, HasFront};
 ghost use Rattle.mr_shards.specs.Cursors.{IsFound, IsFronted, IsHeadFor, left, least_from, lesser};
-ghost use Rattle.mr_shards.specs.Portions.{past_files, shifted_group};
+ghost use Rattle.mr_shards.specs.Portions.{shifted_group};
 ghost use Rattle.mr_shards.specs.Refused.{BlamesOnly, IsReadOf, IsRestOf, MayFollow, last_key};
 
 use crate::line::{Line, first_line, moved};
 use crate::merger::MergeFault;
+use crate::shift::Shift;
 use mr_bytes::compare_keys;
 use mr_jobs::Job;
 use std::cmp::Ordering;
 
-/// A shard's output, partly merged: its next line, with its file number moved, and the rest.
+/// A shard's output, partly merged: its next line, with its place moved, and the rest.
 #[derive(Clone, Copy)]
 pub(crate) struct Cursor<'a> {
     pub head: Option<Line<'a>>,
     pub rest: &'a [u8],
-    /// How many files the shards before have.
-    pub before: u32,
+    /// How far the shard's places move.
+    pub before: Shift,
+    /// How many files the shard has.
+    pub count: u32,
     /// How many lines were read, modulo 2^64.
     pub lines: u64,
 }
@@ -66,20 +69,21 @@ pub(crate) fn advanced<'a>(
 ) -> Result<Cursor<'a>, MergeFault>
     requires { IsFronted cursor.head }
     ensures left { IfOk result (λ n. left job.now n
-        ≡ map (shifted_group (past_files cursor.entry.before)) (groups_in job.now cursor.entry.rest.now)) }
-    ensures before { IfOk result (λ n. n.before ≡ cursor.entry.before) }
+        ≡ map (shifted_group cursor.entry.before) (groups_in job.now cursor.entry.rest.now)) }
+    ensures files { IfOk result (λ n. (n.before ≡ cursor.entry.before) × (n.count ≡ cursor.entry.count)) }
     ensures kind { IfOk result (IsHeadFor job.now) }
     ensures order { IfOk result (λ n. IfSome n.head (λ l. DoesNotFall cursor.entry.head l)) }
     ensures behind { IfOk result (λ n. IsRestOf job.now n → IsRestOf job.now cursor.entry) }
     ensures read { IfOk result (λ n. (text : List ℕ) → IsReadOf job.now text cursor.entry → IsReadOf job.now text n) }
-    ensures err { IfErr result (BlamesOnly job.now shard cursor.entry.before
-        (last_key cursor.entry.head) cursor.entry.rest.now cursor.entry.lines) }
+    ensures err { IfErr result (BlamesOnly job.now shard cursor.entry.count
+        cursor.entry.before (last_key cursor.entry.head) cursor.entry.rest.now cursor.entry.lines) }
 {
     if cursor.rest.is_empty() {
         return Ok(Cursor {
             head: None,
             rest: cursor.rest,
             before: cursor.before,
+            count: cursor.count,
             lines: cursor.lines,
         });
     }
@@ -90,7 +94,7 @@ pub(crate) fn advanced<'a>(
     let Some((line, rest)) = first_line(job, cursor.rest) else {
         return Err(bad);
     };
-    let line = moved(line, cursor.before)?;
+    let line = moved(line, shard, cursor.count, cursor.before)?;
     if !may_follow(job, cursor.head, line) {
         return Err(bad);
     }
@@ -98,6 +102,7 @@ pub(crate) fn advanced<'a>(
         head: Some(line),
         rest,
         before: cursor.before,
+        count: cursor.count,
         lines: cursor.lines.wrapping_add(1),
     })
 }

@@ -1,8 +1,7 @@
 //! Shards: lists of an input's files are judged apart; their outputs merge to those of the whole.
 //! An index can't be merged: its lines name several files; a merged line has one total or place.
 //! Verdicts: what a judge accepted, as text for others; the verdicts of shards join to one.
-//! A merge takes shards of whole files. The laws (`portions.rt`, `ranges.rt`) hold for shards that
-//! are cut within a file too, at a line end, and for an index.
+//! Shards may be cut within a file, at a line end (`ranges.rt`). The laws hold for an index too.
 #![tactic(auto)]
 
 mod cursor;
@@ -29,7 +28,7 @@ pub use merger::{MergeFault, Merger, ShardText, merge_parts};
 pub use portions::{left_out_law, lines_law, portions_law, worked_law};
 pub use ranges::{FileRange, Gap, first_gap, goes_on, ranges_law, tile_law};
 pub use reading::read_verdict;
-pub use shift::{Shift, Spot, shift_past, shifted};
+pub use shift::{ShardFiles, Shift, Spot, shift_past, shifted};
 pub use verdict::{
     FileNote, Verdict, VerdictFault, asks, is_note_of, note_for, request_of, verdict_for,
     write_verdict,

@@ -7,12 +7,15 @@ ghost use Rattle.mr_shards.specs.Lines.{groups_in};
 ghost use Rattle.mr_shards.specs.Merged.{group_text};
 ghost use Rattle.mr_shards.specs.declared.line.Tally.{Tally};
 ghost use Rattle.mr_shards.specs.Cursors.{HasFront};
-ghost use Rattle.mr_shards.specs.Refused.{IsFarPlace, IsLineOf, Overflows};
+ghost use Rattle.mr_shards.specs.Refused.{AreInFiles, IsBadPlace, IsLineOf, IsUnmoved, Overflows};
+ghost use Rattle.mr_shards.specs.declared.line.Tally.TheVariants.{Place as told_place};
+ghost use Rattle.mr_shards.specs.Portions.{shifted_start as moved_start};
 ghost use Rattle.mr_shards.specs.Views.{BeginsWithLine, Combines, IsFor, IsSameKind, IsParsed};
-ghost use Rattle.mr_shards.specs.Portions.{past_files, shifted_group, shifted_value};
+ghost use Rattle.mr_shards.specs.Portions.{shifted_group, shifted_value};
 ghost use Rattle.mr_shards.specs.Views.{group_of, values_of};
 
 use crate::merger::MergeFault;
+use crate::shift::{Shift, shifted_file, shifted_start};
 use itoa::Buffer;
 use memchr::{memchr, memrchr};
 use mr_bytes::Value;
@@ -181,29 +184,57 @@ pub(crate) fn first_line<'a>(job: &Job, text: &'a [u8]) -> Option<(Line<'a>, &'a
     Some((Line { key, front, tally }, rest))
 }
 
-fn moved_tally(tally: Tally, files: u32) -> Result<Tally, MergeFault>
-    ensures values { IfOk result (λ t. values_of t ≡ map (shifted_value (past_files files)) (values_of tally)) }
-    ensures kind { IfOk result (λ t. IsSameKind tally t) }
-    ensures err { IfErr result (λ e. (e ≡ MergeFault.TooManyFiles) × IsFarPlace files tally) }
+/// A place in one of so many files of the shard, moved.
+fn moved_place(
+    shard: usize,
+    count: u32,
+    before: Shift,
+    file: u32,
+    offset: u64,
+) -> Result<Tally, MergeFault>
+    ensures ok { IfOk result (λ t. t ≡ told_place (before.files + file) (moved_start before file offset)) }
+    ensures own { IfOk result (λ _. file < count) }
+    ensures err { IfErr result (λ e. IsBadPlace shard count before e file offset) }
 {
-    match tally {
-        Tally::Total(total) => Ok(Tally::Total(total)),
-        Tally::Place { file, offset } => match files.checked_add(file) {
-            Some(file) => Ok(Tally::Place { file, offset }),
-            None => Err(MergeFault::TooManyFiles),
-        },
+    if file >= count {
+        return Err(MergeFault::NoSuchFile { shard });
+    }
+    let Some(offset) = shifted_start(&before, file as u64, offset) else {
+        return Err(MergeFault::PlaceTooFar);
+    };
+    match shifted_file(&before, file as u64) {
+        Some(file) => Ok(Tally::Place { file, offset }),
+        None => Err(MergeFault::TooManyFiles),
     }
 }
 
-/// The line, if `files` files come before those of its shard.
-pub(crate) fn moved<'a>(line: Line<'a>, files: u32) -> Result<Line<'a>, MergeFault>
-    ensures group { IfOk result (λ l. group_of l ≡ shifted_group (past_files files) (group_of line.entry)) }
+fn moved_tally(tally: Tally, shard: usize, count: u32, before: Shift) -> Result<Tally, MergeFault>
+    ensures values { IfOk result (λ t. values_of t ≡ map (shifted_value before) (values_of tally)) }
+    ensures kind { IfOk result (λ t. IsSameKind tally t) }
+    ensures own { IfOk result (λ _. AreInFiles count (values_of tally)) }
+    ensures err { IfErr result (IsUnmoved shard count before tally) }
+{
+    match tally {
+        Tally::Total(total) => Ok(Tally::Total(total)),
+        Tally::Place { file, offset } => moved_place(shard, count, before, file, offset),
+    }
+}
+
+/// The line, moved, of a shard with so many files.
+pub(crate) fn moved<'a>(
+    line: Line<'a>,
+    shard: usize,
+    count: u32,
+    before: Shift,
+) -> Result<Line<'a>, MergeFault>
+    ensures group { IfOk result (λ l. group_of l ≡ shifted_group before (group_of line.entry)) }
     ensures kind { IfOk result (λ l. IsSameKind line.entry.tally l.tally) }
     ensures front { IfOk result (λ l. HasFront line.entry → HasFront l) }
-    ensures err { IfErr result (λ e. (e ≡ MergeFault.TooManyFiles) × IsFarPlace files line.entry.tally) }
+    ensures own { IfOk result (λ _. AreInFiles count (values_of line.entry.tally)) }
+    ensures err { IfErr result (IsUnmoved shard count before line.entry.tally) }
 {
     Ok(Line {
-        tally: moved_tally(line.tally, files)?,
+        tally: moved_tally(line.tally, shard, count, before)?,
         ..line
     })
 }

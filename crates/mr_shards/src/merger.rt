@@ -17,15 +17,18 @@ ghost use Rattle.std.specs.List.{AllByRecursion};
 ghost use Rattle.mr_shards.specs.Cursors.{BlamesAt, Goes, IsFronted, IsHeadFor, ReadsOn};
 ghost use Rattle.mr_shards.specs.Cursors.{with_waiting};
 ghost use Rattle.mr_shards.specs.Merged.{texts};
-ghost use Rattle.mr_shards.specs.Refused.{Blames, IsRest, TakesNot};
+ghost use Rattle.mr_shards.specs.Refused.{Blames, IsShardText, TakesNot};
 ghost use Rattle.mr_shards.specs.Portions.{merged_portions};
 ghost use Rattle.mr_shards.specs.Outputs.{AreAtFirst, IsOutputOfAll, parts_in};
+ghost use Rattle.mr_shards.specs.Portions.{behind, past_shard};
+ghost use Rattle.mr_shards.specs.Refused.{PassesNot};
 
 use crate::cursor::{Cursor, advanced, next_line};
 use crate::line::{Line, combined, put};
 use crate::piece::{
     all_read, cuts_before, expect_order, held_of, merge_pieces, no_bytes, whole_windows,
 };
+use crate::shift::{ShardFiles, Shift, shifted_file, shifted_start};
 use crate::window::{Held, Place, Window, all_last, place_of};
 use mr_bytes::compare_keys;
 use mr_jobs::Job;
@@ -116,8 +119,8 @@ impl Merger {
     ghost use Rattle.mr_shards.specs.Pieces.{IsAfter, Reading, cuts_of, outputs_of, text_taken};
     ghost use Rattle.mr_shards.specs.Refused.{Blames};
 
-    /// A merger of shards with so many files each. Nothing is taken yet.
-    pub fn new(alloc: Global, files: &[u32]) -> Result<Merger, AllocError>
+    /// A merger of shards with these files. Nothing is taken yet.
+    pub fn new(alloc: Global, files: &[ShardFiles]) -> Result<Merger, AllocError>
         ensures fresh { IfOk result (λ m. m ≡ fresh_all files.now) }
         ensures begins { IfOk result (λ m. (job : JobSpec) (rs : List Reading)
             → AreFresh files.now rs → IsAfter job rs m × (text_taken job rs ≡ [])) }
@@ -244,9 +247,15 @@ pub enum MergeFault {
     /// The total of a key doesn't fit in 64 bits.
     #[error("TotalTooLarge")]
     TotalTooLarge,
-    /// There are 2^32 files or more, or a place's moved file number reaches 2^32.
+    /// There are 2^32 files or more.
     #[error("TooManyFiles")]
     TooManyFiles,
+    /// A line tells a file that its shard doesn't have.
+    #[error("NoSuchFile shard {shard}")]
+    NoSuchFile { shard: usize },
+    /// A moved offset doesn't fit in 64 bits.
+    #[error("PlaceTooFar")]
+    PlaceTooFar,
     #[error("OutOfMemory")]
     OutOfMemory,
 }
@@ -261,10 +270,10 @@ impl From<AllocError> for MergeFault {
     }
 }
 
-/// A shard's output for a partition, and how many files the shard has.
+/// A shard's output for a partition, and the shard's files.
 #[derive(Clone, Copy)]
 pub struct ShardText<'a> {
-    pub files: u32,
+    pub files: ShardFiles,
     pub text: &'a [u8],
 }
 
@@ -276,6 +285,24 @@ fn keep<'a>(cursors: &mut Vec<Cursor<'a>>, cursor: Cursor<'a>) -> Result<(), Mer
     Ok(())
 }
 
+/// How far places move behind a shard whose own move by `before`.
+fn go_past(before: Shift, files: ShardFiles) -> Result<Shift, MergeFault>
+    ensures ok { IfOk result (λ s. s ≡ behind before (past_shard files)) }
+    ensures err { IfErr result (PassesNot (behind before (past_shard files))) }
+{
+    let shift = files.shift();
+    let Some(files) = shifted_file(&before, shift.files) else {
+        return Err(MergeFault::TooManyFiles);
+    };
+    let Some(bytes) = shifted_start(&before, shift.files, shift.bytes) else {
+        return Err(MergeFault::PlaceTooFar);
+    };
+    Ok(Shift {
+        files: files as u64,
+        bytes,
+    })
+}
+
 fn open_all<'a>(
     alloc: Global,
     job: &Job,
@@ -285,19 +312,17 @@ fn open_all<'a>(
     ensures err { IfErr result (Blames job.now outputs.entry.now) }
 {
     let mut cursors = Vec::new(alloc);
-    let mut before = 0u32;
+    let mut before = Shift { files: 0, bytes: 0 };
     for (shard, output) in outputs.iter().enumerate() {
         let start = Cursor {
             head: None,
             rest: output.text,
             before,
+            count: output.files.count,
             lines: 0,
         };
         keep(&mut cursors, advanced(job, shard, start)?)?;
-        before = match before.checked_add(output.files) {
-            Some(files) => files,
-            None => return Err(MergeFault::TooManyFiles),
-        };
+        before = go_past(before, output.files)?;
     }
     Ok(cursors)
 }
@@ -372,7 +397,7 @@ pub fn merge_parts(
     job: &Job,
     outputs: &[ShardText<'_>],
 ) -> Result<Vec<u8>, MergeFault>
-    ensures stands { IfOk result (λ _. AllByRecursion (λ o. IsRest job.now None o.text.now) outputs.now) }
+    ensures stands { IfOk result (λ _. AllByRecursion (IsShardText job.now) outputs.now) }
     ensures merged { IfOk result (λ out. out.items ≡ texts job.now (merged_portions (parts_in job.now outputs.now))) }
     ensures whole { IfOk result (λ out. IsOutputOfAll job.now outputs.now out.items) }
     ensures err { IfErr result (Blames job.now outputs.now) }

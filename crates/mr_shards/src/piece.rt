@@ -5,13 +5,14 @@ ghost use Rattle.std.specs.Prelude.{replicate, MatchOption, false, true, take, s
 ghost use Rattle.mr_shards.specs.Pieces.{AreBlamed, AreLines, ArePut, AreWithin, BlamesAll};
 ghost use Rattle.mr_shards.specs.Lines.{EndsLine};
 ghost use Rattle.mr_shards.specs.Pieces.{all_read_on};
-ghost use Rattle.mr_shards.specs.Pieces.{cuts_before, fresh, nothing, numbered, pieces_of, read_on};
+ghost use Rattle.mr_shards.specs.Pieces.{cuts_before, fresh, no_files, nothing, numbered, pieces_of, read_on};
 ghost use Rattle.mr_shards.specs.Pieces.{told, whole_window};
 ghost use Rattle.mr_shards.specs.Places.{shown};
 ghost use Rattle.mr_shards.specs.Refused.{Blames};
 
 use crate::line::cut_last;
 use crate::merger::{MergeFault, ShardText, merge_parts};
+use crate::shift::ShardFiles;
 use crate::window::{Held, Place, Window, bytes_to, in_next, line_count, place_of};
 use mr_jobs::Job;
 use std::alloc::{AllocError, Global};
@@ -48,7 +49,7 @@ fn keep_piece<'a>(
     Ok(())
 }
 
-pub(crate) fn held_of(alloc: Global, files: &[u32]) -> Result<Vec<Held>, AllocError>
+pub(crate) fn held_of(alloc: Global, files: &[ShardFiles]) -> Result<Vec<Held>, AllocError>
     ensures { IfOk result (λ held. held.items ≡ map fresh files.now) }
 {
     let mut all = Vec::new(alloc);
@@ -170,7 +171,7 @@ fn cut_off<'a>(
 
 /// How many lines of a shard's output were taken.
 fn lines_of(held: &[Held], shard: usize) -> u64
-    ensures { result ≡ (slice_index_or held.now shard (fresh 0)).lines }
+    ensures { result ≡ (slice_index_or held.now shard (fresh no_files)).lines }
 {
     if shard < held.len() {
         held[shard].lines

@@ -11,7 +11,7 @@
 ghost use Rattle.std.specs.Prelude.{◌≡◌, ℕ, ◌+◌, ◌<◌, ◌≤◌, ◌==◌, ◌^◌, ◌⊎◌, MatchOption, true, false};
 ghost use Rattle.std.specs.Prelude.{if◌then◌else◌, length};
 ghost use Rattle.mr_shards.specs.RangeVerdicts.{end_of, last_goes_on, shift_past as do_shift_past};
-ghost use Rattle.mr_shards.specs.Portions.{shifted_start as moved_start};
+ghost use Rattle.mr_shards.specs.Portions.{past_shard, shifted_start as moved_start};
 ghost use Rattle.mr_shards.specs.Spots.{shifted_spot};
 ghost use Rattle.mr_shards.specs.Gaps.{goes_on_at as is_going_on_at, note_at};
 
@@ -19,18 +19,36 @@ use crate::ranges::{FileRange, goes_on, goes_on_at};
 use std::marker::Model;
 
 /// File numbers move by `files`, and offsets in file 0 by `bytes`.
-#[derive(Debug, Drop)]
+#[derive(Clone, Copy, PartialEq, Eq, Debug)]
 pub struct Shift {
     pub files: u64,
     pub bytes: u64,
 }
 
-impl Model for Shift {
-    ghost use Rattle.mr_shards.specs.Portions.{Shift as Distance};
+/// How many files a shard has. If the next shard goes on with the last one, `cut` is how many bytes
+/// of it come before: in the last range and all ranges of that file before it.
+#[derive(Clone, Copy, PartialEq, Eq, Debug)]
+pub struct ShardFiles {
+    pub count: u32,
+    pub cut: Option<u64>,
+}
 
-    ghost Value = { Distance };
-
-    ghost view = { λ s. record { files = s.files; bytes = s.bytes } };
+impl ShardFiles {
+    /// How far the places of the shards behind move. A file that is cut counts once.
+    pub fn shift(&self) -> Shift
+        ensures { result ≡ past_shard self.now }
+    {
+        match self.cut {
+            Some(bytes) => Shift {
+                files: self.count.saturating_sub(1) as u64,
+                bytes,
+            },
+            None => Shift {
+                files: self.count as u64,
+                bytes: 0,
+            },
+        }
+    }
 }
 
 /// Where a record begins: the number of its file, and the offset there.
@@ -55,15 +73,24 @@ pub fn shifted(shift: &Shift, spot: &Spot) -> Option<Spot>
         ⊎ (2 ^ 64 ≤ (shifted_spot shift.now spot.now).start))
         (λ s. s ≡ shifted_spot shift.now spot.now) }
 {
-    let start = shifted_start(shift, spot.file, spot.start)?;
-    let file = shift.files.checked_add(spot.file as u64)?;
-    match u32::try_from(file) {
-        Ok(file) => Some(Spot { file, start }),
+    let start = shifted_start(shift, spot.file as u64, spot.start)?;
+    let file = shifted_file(shift, spot.file as u64)?;
+    Some(Spot { file, start })
+}
+
+/// The file's number, moved; none if it doesn't fit in 32 bits.
+pub(crate) fn shifted_file(shift: &Shift, file: u64) -> Option<u32>
+    ensures { MatchOption result (2 ^ 32 ≤ shift.now.files + file) (λ n. n ≡ shift.now.files + file) }
+{
+    let moved = shift.files.checked_add(file)?;
+    match u32::try_from(moved) {
+        Ok(file) => Some(file),
         Err(_) => None,
     }
 }
 
-fn shifted_start(shift: &Shift, file: u32, start: u64) -> Option<u64>
+/// The offset in that file, moved; none if it doesn't fit in 64 bits.
+pub(crate) fn shifted_start(shift: &Shift, file: u64, start: u64) -> Option<u64>
     ensures { MatchOption result (2 ^ 64 ≤ moved_start shift.now file start)
         (λ n. n ≡ moved_start shift.now file start) }
 {

@@ -9,6 +9,7 @@ ghost use Rattle.mr_shards.specs.Pieces.{lines_to_take, next_place, place_for};
 ghost use Rattle.mr_shards.specs.Places.{shown};
 
 use crate::line::{cut_first, cut_last};
+use crate::shift::ShardFiles;
 use mr_bytes::compare_keys;
 use mr_jobs::Job;
 
@@ -30,7 +31,7 @@ pub(crate) struct Place<'a> {
 /// A shard's files, and how many lines of its output were taken, modulo 2^64.
 #[derive(Clone, Copy)]
 pub(crate) struct Held {
-    pub files: u32,
+    pub files: ShardFiles,
     pub lines: u64,
 }
 

@@ -5,7 +5,7 @@ use Rattle.mr_files.specs.Names.{name_of_part, part_files}
 use Rattle.mr_jobs.specs.JobSpec.{JobSpec}
 use Rattle.mr_shards.specs.Truth.{notes_for}
 use Rattle.mr_shards.specs.Verdict.{Note, Told}
-use Rattle.mr_shard_files.specs.Beside.{IsPartition}
+use Rattle.mr_shard_files.specs.Beside.{IsPartition, files_told}
 use Rattle.mr_shard_files.specs.Faults.{IsPartitionFault}
 use Rattle.mr_shard_files.specs.Made.{ReportsUnwritten}
 use Rattle.mr_files.proofs.Written.{either}
@@ -47,8 +47,8 @@ part_written-requires-clause-files g c =
     let i = c.loop-partition.partition in
     let here : i < length c.loop-partition.rows.items = omega (arith, c.loop-partition-test.true, c.loop-partition.invariant.all, c.parts-count.ensures.same) in
     let opened = row_at holds unreadable remaining can_fail names vs c.loop-partition.rows.items i c.index_mut.result.now c.index_mut.result.now c.as_mut_slice-parts.result.now here c.index_mut.ensures.value c.as_mut_slice-parts.ensures.value c.loop-partition.invariant.opened in
-    let files : c.as_slice-files.result.now ≡ map (λ (v : Told). length v.inputs) vs = c.as_slice-files.ensures.value ∙ c.in_ok-files.ensures in
-    ap length files ∙ length-map vs (λ v. length v.inputs) ∙ sym (opened_count remaining can_fail holds unreadable i names vs c.as_mut_slice-parts.result.now opened)
+    let files : c.as_slice-files.result.now ≡ map files_told vs = c.as_slice-files.ensures.value ∙ c.in_ok-files.ensures in
+    ap length files ∙ length-map vs files_told ∙ sym (opened_count remaining can_fail holds unreadable i names vs c.as_mut_slice-parts.result.now opened)
 
 pub part_written-requires-clause-count : goal.part_written-requires-clause-count
 part_written-requires-clause-count g c =
@@ -81,7 +81,7 @@ returns-in_err-note-clause-err g c =
     let i = c.loop-partition.partition in
     let here : i < length c.loop-partition.rows.items = omega (arith, c.loop-partition-test.true, c.loop-partition.invariant.all, c.parts-count.ensures.same) in
     let opened = row_at holds unreadable remaining can_fail names vs c.loop-partition.rows.items i c.index_mut.result.now c.index_mut.result.now c.as_mut_slice-parts.result.now here c.index_mut.ensures.value c.as_mut_slice-parts.ensures.value c.loop-partition.invariant.opened in
-    let files : c.as_slice-files.result.now ≡ map (λ (v : Told). length v.inputs) vs = c.as_slice-files.ensures.value ∙ c.in_ok-files.ensures in
+    let files : c.as_slice-files.result.now ≡ map files_told vs = c.as_slice-files.ensures.value ∙ c.in_ok-files.ensures in
     let mid = g.S.Store.holds c.loop-partition.store in
     let new = g.S.Store.holds c.part_written.new.store in
     let dir = c.args.dir.now in
@@ -119,7 +119,7 @@ loop-partition-preserved g c =
     let i = c.loop-partition.partition in
     let here : i < length c.loop-partition.rows.items = omega (arith, c.loop-partition-test.true, c.loop-partition.invariant.all, c.parts-count.ensures.same) in
     let opened = row_at holds unreadable remaining can_fail names vs c.loop-partition.rows.items i c.index_mut.result.now c.index_mut.result.now c.as_mut_slice-parts.result.now here c.index_mut.ensures.value c.as_mut_slice-parts.ensures.value c.loop-partition.invariant.opened in
-    let files : c.as_slice-files.result.now ≡ map (λ (v : Told). length v.inputs) vs = c.as_slice-files.ensures.value ∙ c.in_ok-files.ensures in
+    let files : c.as_slice-files.result.now ≡ map files_told vs = c.as_slice-files.ensures.value ∙ c.in_ok-files.ensures in
     let mid = g.S.Store.holds c.loop-partition.store in
     let new = g.S.Store.holds c.part_written.new.store in
     let dir = c.args.dir.now in

@@ -1,9 +1,10 @@
 use Rattle.std.proofs.Common.{◌≡◌, ◌+◌, ◌%◌, ◌^◌, [], refl, ap, subst, Some, List, ℕ}
 use Rattle.std.proofs.lemmas.Bool.{eqb-false}
+use Rattle.std.specs.List.{AllByRecursion}
 use Rattle.mr_shards.specs.Merged.{Group}
 use Rattle.std.proofs.lemmas.Result.{err_from_is_err_and}
-use Rattle.mr_shards.specs.Refused.{BlamesOnly, IsReadTo, IsRest, MayFollow, last_key}
-use Rattle.mr_shards.proofs.RefusedLemmas.{far-line, handed, none-begins, none-follows, read-end, read-line, rest-before}
+use Rattle.mr_shards.specs.Refused.{AreInFiles, BlamesOnly, IsReadTo, IsRest, MayFollow, last_key}
+use Rattle.mr_shards.proofs.RefusedLemmas.{handed, none-begins, none-follows, read-end, read-line, rest-before, unmoved-line}
 use Rattle.std.proofs.Common.{◌∙◌, sym, length, eqb-true}
 use Rattle.mr_shards.proofs.CursorLemmas.{no_bytes, none-left}
 use Rattle.mr_shards.proofs.cursor.advanced.Goals as goal
@@ -53,12 +54,15 @@ returns-clause-read c = λ text r.
 pub returns-clause-behind : goal.returns-clause-behind
 returns-clause-behind c = λ r.
     let key : c.in_ok-line.line.key.now ≡ c.in-Some.line.key.now = ap (λ (h : Group). h.key) c.in_ok-line.ensures.group in
-    let follows = subst (MayFollow c.args.job.now (last_key c.args.cursor.head)) key (c.may_follow.ensures.turn.0 c.if-not-may_follow.false) in
-    rest-before c.args.job.now (last_key c.args.cursor.head) c.args.cursor.rest.now c.in-Some.line c.in-Some.rest.now c.in-Some.ensures.line c.in-Some.ensures.text follows
-    (subst (λ (k : List ℕ). IsRest c.args.job.now (Some k) c.in-Some.rest.now) key r)
+    let follows = subst (MayFollow c.args.job.now (last_key c.args.cursor.head)) key (c.may_follow.ensures.turn.0 c.if-not-may_follow.false) in (
+      rest-before c.args.job.now (last_key c.args.cursor.head) c.args.cursor.rest.now c.in-Some.line c.in-Some.rest.now c.in-Some.ensures.line c.in-Some.ensures.text follows
+          (subst (λ (k : List ℕ). IsRest c.args.job.now (Some k) c.in-Some.rest.now) key r.0),
+      subst (AllByRecursion (λ (g : Group). AreInFiles c.args.cursor.count g.values)) (sym c.in-Some.ensures.read) (c.in_ok-line.ensures.own, r.1),
+    )
 
 pub returns-in_err-line-clause-err : goal.returns-in_err-line-clause-err
 returns-in_err-line-clause-err c =
-    handed (BlamesOnly c.args.job.now c.args.shard c.args.cursor.before (last_key c.args.cursor.head) c.args.cursor.rest.now c.args.cursor.lines) c.from_residual.result c.in_err-line.field-0.0
+    handed (BlamesOnly c.args.job.now c.args.shard c.args.cursor.count c.args.cursor.before (last_key c.args.cursor.head) c.args.cursor.rest.now c.args.cursor.lines) c.from_residual.result c.in_err-line.field-0.0
     (err_from_is_err_and c.from_residual.result c.from_residual.ensures.1)
-    (rw c.in_err-line.ensures.err.0 (far-line c.args.job.now c.args.cursor.rest.now c.args.cursor.before c.in-Some.line c.in-Some.rest.now c.in-Some.ensures.line c.in-Some.ensures.text c.in_err-line.ensures.err.1))
+    (unmoved-line c.args.job.now c.args.shard c.args.cursor.count c.args.cursor.before (last_key c.args.cursor.head) c.args.cursor.rest.now c.args.cursor.lines c.in-Some.line c.in-Some.rest.now
+    c.in_err-line.field-0.0 c.in-Some.ensures.line c.in-Some.ensures.text c.in_err-line.ensures.err)

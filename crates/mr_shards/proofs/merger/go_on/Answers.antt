@@ -17,7 +17,7 @@ returns-clause-ok c =
       order = e.order;
       behind = e.behind;
       read = e.read;
-      before = e.before;
+      files = e.files;
     }
 
 pub returns-in_err-next-clause-err : goal.returns-in_err-next-clause-err

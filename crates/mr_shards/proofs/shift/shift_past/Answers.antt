@@ -15,14 +15,14 @@ loop-at-preserved c =
       within = omega (arith, c.loop-at.invariant.within);
     }
 
-pub overflow_sub-files : goal.overflow_sub-files
-overflow_sub-files c =
+pub overflow_sub-result : goal.overflow_sub-result
+overflow_sub-result c =
     let past : IsPast c.args.ranges.now c.loop-at.files c.loop-at.begin =
     past-done c.args.ranges.now c.loop-at.at c.loop-at.files c.loop-at.begin (λ h. omega (arith, h, c.loop-at-test.false)) c.loop-at.invariant.past in
     past-some c.args.ranges.now c.args.behind.now c.loop-at.files c.loop-at.begin past c.in-Some.ensures.0
 
-pub overflow_sub-end : goal.overflow_sub-end
-overflow_sub-end c =
+pub overflow_sub-result-in-Some : goal.overflow_sub-result-in-Some
+overflow_sub-result-in-Some c =
     let past : IsPast c.args.ranges.now c.loop-at.files c.loop-at.begin =
     past-done c.args.ranges.now c.loop-at.at c.loop-at.files c.loop-at.begin (λ h. omega (arith, h, c.loop-at-test.false)) c.loop-at.invariant.past in
     omega (arith, c.in-Some.ensures.1, past.end (past-some c.args.ranges.now c.args.behind.now c.loop-at.files c.loop-at.begin past c.in-Some.ensures.0))
