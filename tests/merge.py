@@ -228,9 +228,24 @@ def refusals(harness):
     shards = two_shards(harness)
     got = merged(harness, harness.directory(), [*shards, shards[0]])
     harness.check("a shard twice", got == (1, b"", b"mapred: RepeatedInput input 2\n"), repr(got))
+    places(harness)
     renoted(shards[1], "part-00000", b"")
     got = merged(harness, harness.directory(), shards)
     harness.check("who lies about a part is believed: the merge tests that verdicts and parts agree", got[0] == 0, repr(got))
+
+
+def places(harness):
+    """Places in a file of the shard move; one in a file that the shard doesn't have is refused, in whichever shard it stands."""
+    lines = Request("grep", 1, 16, literal=b"cat")
+    for liar, told in [(0, b"0"), (1, b"1")]:
+        shards = [write_shard(harness, lines, [*given], [*given.values()], []) for given in (ONE, TWO)]
+        where = harness.directory()
+        got = merged(harness, where, shards)
+        text = b"The cat saw the dog.\t0:0\na cat\t1:0\n"
+        harness.check("places move by the files before", got[0] == 0 and parts_of(where) == [text], repr((got, parts_of(where))))
+        renoted(shards[liar], "part-00000", contents(shards[liar])["part-00000"].replace(b"\t0:0", b"\t1:0"))
+        got = merged(harness, harness.directory(), shards)
+        harness.check("a file that its shard doesn't have", got == (1, b"", b"mapred: NoSuchFile shard " + told + b" partition 0\n"), repr(got))
 
 
 def files(harness):

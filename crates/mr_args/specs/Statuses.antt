@@ -22,6 +22,7 @@ status_of_shards (shards.RepeatedInput input) = 1
 status_of_shards (shards.OtherInputs line) = 1
 status_of_shards (shards.OtherPart shard partition) = 1
 status_of_shards (shards.BadLine shard partition line) = 1
+status_of_shards (shards.NoSuchFile shard partition) = 1
 status_of_shards (shards.OtherOutputs shard) = 1
 status_of_shards fault = 2
 

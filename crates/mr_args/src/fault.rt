@@ -133,6 +133,7 @@ fn shards_status(fault: &ShardFault) -> u8
         | ShardFault::OtherInputs { .. }
         | ShardFault::OtherPart { .. }
         | ShardFault::BadLine { .. }
+        | ShardFault::NoSuchFile { .. }
         | ShardFault::OtherOutputs { .. } => 1,
         _ => 2,
     }

@@ -202,9 +202,13 @@ fn shards_cure(fault: &ShardFault) -> &'static str {
         ShardFault::LongList => "the list of inputs has at most 1 GiB",
         ShardFault::TooManySplits { .. } =>
             "splits of all shards are numbered in 32 bits: run the shards with a greater --split",
-        ShardFault::TooManyFiles | ShardFault::FileTooFar { .. } =>
+        ShardFault::NoSuchFile { .. } =>
+            "the part tells a file that its verdict doesn't: run the shard again, and judge it",
+        ShardFault::TooManyFiles =>
             "files of all shards are numbered in 32 bits: merge fewer shards",
-        ShardFault::TooManyPairs | ShardFault::TotalTooLarge { .. } => "",
+        ShardFault::TooManyPairs
+        | ShardFault::TotalTooLarge { .. }
+        | ShardFault::PlaceTooFar { .. } => "",
         ShardFault::CannotRead(_) | ShardFault::CannotWrite(_) | ShardFault::SameFile(_) => "",
         ShardFault::OutOfMemory => MEMORY,
     }

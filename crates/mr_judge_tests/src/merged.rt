@@ -1,51 +1,70 @@
 //! Outputs of shards, merged: worked rows, and each refusal.
 use mr_jobs::Job;
-use mr_shards::{MergeFault, ShardText, merge_parts};
+use mr_shards::{MergeFault, ShardFiles, ShardText, merge_parts};
 use std::alloc::Global;
 use std::test::Fail;
 
+// So many files, none of which goes on in the next shard.
+const ONE: ShardFiles = ShardFiles {
+    count: 1,
+    cut: None,
+};
+
+const TWO: ShardFiles = ShardFiles {
+    count: 2,
+    cut: None,
+};
+
+const THREE: ShardFiles = ShardFiles {
+    count: 3,
+    cut: None,
+};
+
 // What a shard of so many files has.
-fn shard(files: u32, text: &[u8]) -> ShardText<'_> {
-    ShardText { files, text }
+fn shard(count: u32, text: &[u8]) -> ShardText<'_> {
+    ShardText {
+        files: ShardFiles { count, cut: None },
+        text,
+    }
 }
 
 const TOTALS: [ShardText<'static>; 3] = [
     ShardText {
-        files: 2,
+        files: TWO,
         text: b"a\t2\nthe\t7\n",
     },
     ShardText {
-        files: 1,
+        files: ONE,
         text: b"",
     },
     ShardText {
-        files: 3,
+        files: THREE,
         text: b"b\t1\nthe\t40\nzoo\t1\n",
     },
 ];
 
 const KEYS_WITH_TABS: [ShardText<'static>; 2] = [
     ShardText {
-        files: 1,
+        files: ONE,
         text: b"/a\tb\t2\n/c\t1\n",
     },
     ShardText {
-        files: 1,
+        files: ONE,
         text: b"/a\t9\n/a\tb\t3\n",
     },
 ];
 
 const PLACES: [ShardText<'static>; 3] = [
     ShardText {
-        files: 2,
+        files: TWO,
         text: b"ax\t0:0\nx\t1:7\nx\t1:9\n",
     },
     ShardText {
-        files: 1,
+        files: ONE,
         text: b"x\t0:3\nzx\t0:5\n",
     },
     ShardText {
-        files: 1,
+        files: ONE,
         text: b"x\t0:1\n",
     },
 ];
@@ -53,12 +72,49 @@ const PLACES: [ShardText<'static>; 3] = [
 // The first of the rows that are merged in windows.
 const PIECES: [ShardText<'static>; 2] = [
     ShardText {
-        files: 2,
+        files: TWO,
         text: b"ax\t0:0\nx\t1:7\nx\t1:9\nyx\t0:4\n",
     },
     ShardText {
-        files: 1,
+        files: ONE,
         text: b"x\t0:3\nzx\t0:5\n",
+    },
+];
+
+// The second file of the first shard goes on in the next one, behind its first 600 bytes.
+const CUT: [ShardText<'static>; 2] = [
+    ShardText {
+        files: ShardFiles {
+            count: 2,
+            cut: Some(600),
+        },
+        text: b"x\t0:0\nx\t1:7\n",
+    },
+    ShardText {
+        files: TWO,
+        text: b"x\t0:10\nx\t1:3\n",
+    },
+];
+
+// Three ranges of one file, of five, three and some bytes.
+const ONE_FILE: [ShardText<'static>; 3] = [
+    ShardText {
+        files: ShardFiles {
+            count: 1,
+            cut: Some(5),
+        },
+        text: b"x\t0:0\n",
+    },
+    ShardText {
+        files: ShardFiles {
+            count: 1,
+            cut: Some(3),
+        },
+        text: b"x\t0:1\n",
+    },
+    ShardText {
+        files: ONE,
+        text: b"x\t0:2\n",
     },
 ];
 
@@ -95,7 +151,7 @@ const WITH_TABS: [Row<'static>; 1] = [Row {
     want: b"/a\t9\n/a\tb\t5\n/c\t1\n",
 }];
 
-const WITH_PLACES: [Row<'static>; 2] = [
+const WITH_PLACES: [Row<'static>; 4] = [
     Row {
         outputs: &PLACES,
         want: b"ax\t0:0\nx\t1:7\nx\t1:9\nx\t2:3\nx\t3:1\nzx\t2:5\n",
@@ -103,6 +159,14 @@ const WITH_PLACES: [Row<'static>; 2] = [
     Row {
         outputs: &PIECES,
         want: b"ax\t0:0\nx\t1:7\nx\t1:9\nx\t2:3\nyx\t0:4\nzx\t2:5\n",
+    },
+    Row {
+        outputs: &CUT,
+        want: b"x\t0:0\nx\t1:7\nx\t1:610\nx\t2:3\n",
+    },
+    Row {
+        outputs: &ONE_FILE,
+        want: b"x\t0:0\nx\t0:6\nx\t0:10\n",
     },
 ];
 
@@ -186,6 +250,26 @@ fn bad_lines(rt: HostRuntime) -> Result<(), Fail> {
     let grep = Job::grep(rt.alloc(), b"x", false)?;
     assert!(rt; are_told(rt.alloc(), &grep, &BAD_WITH_PLACES));
     assert!(rt; are_told(rt.alloc(), &Job::words(false), &BAD_WITH_TOTALS));
+    Ok(())
+}
+
+#[test]
+fn places_beyond(rt: HostRuntime) -> Result<(), Fail> {
+    let grep = Job::grep(rt.alloc(), b"x", false)?;
+    let first = shard(1, b"x\t0:9\n");
+    let other = shard(1, b"x\t1:0\n");
+    let late = shard(1, b"x\t0:1\n");
+    let long = ShardText {
+        files: ShardFiles {
+            count: 1,
+            cut: Some(18446744073709551615),
+        },
+        text: b"",
+    };
+    assert!(rt; fault_of(rt.alloc(), &grep, other, first) == Some(MergeFault::NoSuchFile { shard: 0 }));
+    assert!(rt; fault_of(rt.alloc(), &grep, first, other) == Some(MergeFault::NoSuchFile { shard: 1 }));
+    assert!(rt; fault_of(rt.alloc(), &grep, long, late) == Some(MergeFault::PlaceTooFar));
+    assert!(rt; fault_of(rt.alloc(), &grep, late, long) == None);
     Ok(())
 }
 

@@ -2,9 +2,21 @@
 ghost use Rattle.std.specs.Prelude.{◌≡◌, length};
 
 use mr_jobs::Job;
-use mr_shards::{MergeFault, Merger, Window};
+use mr_shards::{MergeFault, Merger, ShardFiles, Window};
 use std::alloc::Global;
 use std::test::Fail;
+
+// The files of both shards.
+const FILES: [ShardFiles; 2] = [
+    ShardFiles {
+        count: 2,
+        cut: None,
+    },
+    ShardFiles {
+        count: 1,
+        cut: None,
+    },
+];
 
 // So many bytes of the text from there on, and whether it ends with them.
 fn window_at(text: &[u8], at: usize, width: usize) -> Window<'_> {
@@ -58,7 +70,7 @@ fn in_windows(
     width: usize,
     out: &mut Vec<u8>,
 ) -> Result<(), MergeFault> {
-    let mut merger = Merger::new(alloc, &[2, 1])?;
+    let mut merger = Merger::new(alloc, &FILES)?;
     let more = if row.grows { width } else { 0 };
     let mut at = (0, 0);
     let mut wide = width;
