@@ -266,8 +266,12 @@ fn places_beyond(rt: HostRuntime) -> Result<(), Fail> {
         },
         text: b"",
     };
-    assert!(rt; fault_of(rt.alloc(), &grep, other, first) == Some(MergeFault::NoSuchFile { shard: 0 }));
-    assert!(rt; fault_of(rt.alloc(), &grep, first, other) == Some(MergeFault::NoSuchFile { shard: 1 }));
+    assert!(rt;
+        fault_of(rt.alloc(), &grep, other, first) == Some(MergeFault::NoSuchFile { shard: 0 })
+    );
+    assert!(rt;
+        fault_of(rt.alloc(), &grep, first, other) == Some(MergeFault::NoSuchFile { shard: 1 })
+    );
     assert!(rt; fault_of(rt.alloc(), &grep, long, late) == Some(MergeFault::PlaceTooFar));
     assert!(rt; fault_of(rt.alloc(), &grep, late, long) == None);
     Ok(())

@@ -11,7 +11,7 @@ use Rattle.mr_bytes.specs.Order.{key_order}
 use Rattle.mr_shards.specs.Merged.{Group, joined, merged, with_group}
 use Rattle.mr_bytes.specs.Lists.{Rises}
 use Rattle.mr_shards.proofs.MergedLaws.{keys, merged-rise}
-use Rattle.mr_shards.specs.Portions.{MergedAtOnce, Part, Shift, behind, merged_groups, merged_portions, no_shift, past_files, shifted_group, shifted_parts, shifted_start, shifted_value}
+use Rattle.mr_shards.specs.Portions.{MergedAtOnce, Part, Shift, behind, merged_groups, merged_portions, no_shift, shifted_group, shifted_parts, shifted_start, shifted_value}
 
 start-twice : (s t : Shift) (file start : ℕ) → shifted_start s (t.files + file) (shifted_start t file start) ≡ shifted_start (behind s t) file start
 start-twice s t file start =
@@ -92,15 +92,6 @@ groups-still (g ∷ gs) = let here = values-still g.values in let rest = groups-
 
 pub merged_at_once : MergedAtOnce
 merged_at_once parts = sym (groups-still (merged_portions parts)) ∙ parts-shifted no_shift parts
-
--- ---- files that are moved by files
-
-pub files-behind : (m n : ℕ) → behind (past_files m) (past_files n) ≡ past_files (m + n)
-files-behind m n = let bytes = by (eqb n 0) in λ i. record { files = m + n; bytes = bytes i }
-  where
-    by : (b : Bool) → cond b (0 + 0) 0 ≡ 0
-    by true = refl
-    by false = refl
 
 -- ---- keys rise as they did
 

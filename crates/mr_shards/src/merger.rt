@@ -3,8 +3,8 @@
 //!     shard 0  a 2 | c 1 |
 //!     shard 1  a 3 | b 1 |    ->    a 5 | b 1 | c 1 |
 //!
-//! Equal keys come in the order of the shards. Totals of a key add up; a place's file number moves
-//! by the files of the shards before. Invariant: `out` and the line that waits are the merge of the
+//! Equal keys come in the order of the shards. Totals of a key add up; a place moves by the files of
+//! the shards before, and by their bytes of a file that goes on (`shift.rt`). Invariant: `out` and the line that waits are the merge of the
 //! lines taken. Cost: each line takes one look at the next line of every shard.
 ghost use Rattle.std.specs.Prelude.{◌≡◌, ℕ, ◌≤◌, ◌++◌, ◌∷◌, [], IfErr, IfOk, OnErr, OnOk, length};
 ghost use Rattle.std.specs.Prelude.{map, option_map, List, Some, MatchOption, true, false, ◌<◌};
@@ -17,11 +17,9 @@ ghost use Rattle.std.specs.List.{AllByRecursion};
 ghost use Rattle.mr_shards.specs.Cursors.{BlamesAt, Goes, IsFronted, IsHeadFor, ReadsOn};
 ghost use Rattle.mr_shards.specs.Cursors.{with_waiting};
 ghost use Rattle.mr_shards.specs.Merged.{texts};
-ghost use Rattle.mr_shards.specs.Refused.{Blames, IsShardText, TakesNot};
-ghost use Rattle.mr_shards.specs.Portions.{merged_portions};
+ghost use Rattle.mr_shards.specs.Refused.{Blames, IsShardText, PassesNot, TakesNot};
+ghost use Rattle.mr_shards.specs.Portions.{behind, merged_portions, past_shard};
 ghost use Rattle.mr_shards.specs.Outputs.{AreAtFirst, IsOutputOfAll, parts_in};
-ghost use Rattle.mr_shards.specs.Portions.{behind, past_shard};
-ghost use Rattle.mr_shards.specs.Refused.{PassesNot};
 
 use crate::cursor::{Cursor, advanced, next_line};
 use crate::line::{Line, combined, put};
