@@ -45,6 +45,8 @@ INPUTS = [
     ("8 million distinct words", ["--job", "words"], lambda: distinct(8_000_000)),
     ("100,000 words of sixteen bytes", ["--job", "words"], lambda: random_words(100_000)),
     ("the same many, made to collide", ["--job", "words"], lambda: collided(100_000)),
+    ("400,000 long words that differ at the end", ["--job", "words"], lambda: (b"a" * 16 + b"%08d\n" % i for i in range(400_000))),
+    ("the same many that differ in front", ["--job", "words"], lambda: (b"%08d" % i + b"a" * 16 + b"\n" for i in range(400_000))),
     ("empty records", ["--job", "words"], lambda: [b"\n" * (32 * MB)]),
     ("grep: short lines that match", ["--job", "grep", "--literal", "a"], lambda: [b"a\n" * (16 * MB)]),
     ("grep: the same behind a line in another file", ["--job", "grep", "--literal", "a"], lambda: [b"a\n" * (16 * MB)], b"a\n"),

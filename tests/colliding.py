@@ -28,10 +28,27 @@ def colliding(count, draw):
     return sorted(words)
 
 
+def mixed(hash, word):
+    """As in crates/mr_group/src/print.rt."""
+    product = (hash ^ word) * FIRST & MASK
+    return product ^ product >> 32
+
+
+def colliding_long(count, draw):
+    """So many words of 24 bytes, all of one hash: the second eight bytes undo what the first eight did."""
+    words, wanted = set(), draw.getrandbits(64)
+    while len(words) < count:
+        first = bytes(draw.choice(SMALL) for _ in range(8))
+        second = struct.pack("<Q", mixed(24, int.from_bytes(first, "little")) ^ wanted)
+        if WORD.issuperset(second):
+            words.add(first + second + b"thelast8")
+    return sorted(words)
+
+
 def counted_once(harness):
     """Each word that comes again is counted with itself, however many numbers it had."""
     draw = random.Random(18)
-    words = colliding(1500, draw)
+    words = colliding(1500, draw) + colliding_long(1500, draw)
     for times, parts in ((1, 1), (4, 3)):
         told = [word for word in words for _ in range(times)]
         draw.shuffle(told)

@@ -79,7 +79,7 @@ fn hashed_print(print: Print, key: &[u8]) -> Print
     requires { MOST_TOLD < length key.now }
     ensures { IsPrint result key.now }
 {
-    let mut first = print.first;
+    let mut first = key.len() as u64;
     for word in key.as_chunks::<8>().0 {
         first = mixed(first, u64::from_le_bytes(*word));
     }
