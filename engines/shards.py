@@ -1,8 +1,8 @@
 #!/usr/bin/env python3
 """Runs a job over more than one gigabyte: shards.py --out DIR --job JOB [options of the job] FILE..
 
-The list of files is cut into shards, in order, each of whole files. Each shard is executed by `mapred seq`, judged by
-`mapred check`, and tried again where its work is lost; then `mapred merge` joins the shards that were judged. The result
+The files are cut into shards, in order: a small file is in one shard, a large one is cut at line ends, without copying.
+Each shard is executed by `mapred seq`, judged by `mapred check`, and tried again where its work is lost; then `mapred merge` joins the shards that were judged. The result
 is that of one sequential execution over all files, whatever was lost on the way: a shard counts only with the judge's
 yes, and the merge tests each part against the verdict that names it. Shards of an index aren't merged.
 
@@ -25,6 +25,8 @@ MOST_BYTES = 1 << 30
 MOST_FILES = 1024
 # How many shards are merged at once: each line costs a look at the next line of each of them.
 MOST_MERGED = 64
+# How many bytes are looked at together for a line's end.
+BLOCK = 1 << 16
 
 
 class ShardFailed(Exception):
@@ -35,19 +37,59 @@ class Refused(ShardFailed):
     """The program refuses what it is asked for: another attempt would be refused too."""
 
 
+def line_end_before(file, low, high):
+    """The last place from behind `low` to `high` right behind a line feed; None if there is none."""
+    while high > low:
+        start = max(low, high - BLOCK)
+        file.seek(start)
+        at = file.read(high - start).rfind(b"\n")
+        if at >= 0:
+            return start + at + 1
+        high = start
+    return None
+
+
+def line_end_behind(file, low, length):
+    """The first place behind `low` right behind a line feed, or the file's end."""
+    file.seek(low)
+    while block := file.read(BLOCK):
+        at = block.find(b"\n")
+        if at >= 0:
+            return low + at + 1
+        low += len(block)
+    return length
+
+
+def cuts_of(name, size):
+    """The ranges that make up the file, as long as it is now: (from, to). Each has at most so many bytes, unless one line is longer."""
+    length, ranges, at = os.stat(name).st_size, [], 0
+    if length <= size:
+        return [(0, length)]
+    with open(name, "rb", buffering=0) as file:
+        while length - at > size:
+            to = line_end_before(file, at, at + size) or line_end_behind(file, at + size, length)
+            if to - at > MOST_BYTES:
+                raise SystemExit(f"shards.py: {name} has a line of more than 1 GiB at byte {at}")
+            ranges.append((at, to))
+            at = to
+    return ranges + [(at, length)] if at < length else ranges
+
+
 def shards_of(files, size):
-    """The files in shards, in order: whole files, as many as fit in so many bytes, at least one each."""
-    shards, held = [], 0
+    """The files in shards, in order: [names, from, to], `from` in the first file and `to` in the last one, None for its end. A shard has
+    at most so many bytes, unless one line is longer; a range that its file goes on behind ends a shard."""
+    shards, held = [], size
     for name in files:
-        length = os.stat(name).st_size
-        if length > MOST_BYTES:
-            raise SystemExit(f"shards.py: {name} has more than 1 GiB: cut it at line feeds first (split -C 512M)")
-        if not shards or held + length > size or len(shards[-1]) == MOST_FILES:
-            shards.append([])
-            held = 0
-        shards[-1].append(name)
-        held += length
-    return shards or [[]]
+        ranges = cuts_of(name, size)
+        for low, high in ranges:
+            if not shards or low > 0 or held + high - low > size or len(shards[-1][0]) == MOST_FILES:
+                shards.append([[], low, None])
+                held = 0
+            shards[-1][0].append(name)
+            held += high - low
+            if high < ranges[-1][1]:
+                shards[-1][2] = high
+    return shards or [[[], 0, None]]
 
 
 def ran(words):
@@ -63,10 +105,17 @@ def ran(words):
     return done.stdout
 
 
-def asked_of(job, files):
-    """What a shard is asked for, as it is kept beside its verdict: the request, and the files as they stand."""
+def asked_of(job, shard):
+    """What a shard is asked for, as it is kept beside its verdict: the request, where it begins and ends, and the files as they stand."""
+    files, low, high = shard
     stats = [(name, os.stat(name)) for name in files]
-    return {"job": job, "files": [[name, told.st_size, told.st_mtime_ns] for name, told in stats]}
+    return {"job": job, "from": low, "to": high, "files": [[name, told.st_size, told.st_mtime_ns] for name, told in stats]}
+
+
+def input_of(shard):
+    """The words of the command line for what a shard takes."""
+    files, low, high = shard
+    return (["--from", str(low)] if low else []) + (["--to", str(high)] if high is not None else []) + ["--", *files]
 
 
 def is_kept(where, asked):
@@ -78,16 +127,16 @@ def is_kept(where, asked):
         return False
 
 
-def attempt(program, job, where, files):
+def attempt(program, job, where, shard):
     """Executes and judges a shard in a directory of its own, which gets the shard's name once the judge has said yes. Two
     attempts at one shard do no harm: they make the same bytes, and the first one stays."""
-    asked = asked_of(job, files)
+    asked, taken = asked_of(job, shard), input_of(shard)
     if is_kept(where, asked):
         return where
     room = tempfile.mkdtemp(prefix=os.path.basename(where) + ".", dir=os.path.dirname(where))
     try:
-        ran([program, "seq", *job, "--out", room, "--", *files])
-        ran([program, "check", *job, "--out", room, "--verdict", os.path.join(room, "verdict"), "--", *files])
+        ran([program, "seq", *job, "--out", room, *taken])
+        ran([program, "check", *job, "--out", room, "--verdict", os.path.join(room, "verdict"), *taken])
         with open(os.path.join(room, "asked.json"), "w") as file:
             json.dump(asked, file)
         put_in_place(room, where, asked)
@@ -122,7 +171,7 @@ def merge_all(program, room, out, verdicts, more, processes):
         for where in outs:
             os.makedirs(where, exist_ok=True)
         with ThreadPoolExecutor(processes) as pool:
-            list(pool.map(lambda pair: merge(program, *pair), zip(outs, groups)))
+            list(pool.map(lambda pair: merge(program, *pair, ["--partial"]), zip(outs, groups)))
         verdicts, level = [os.path.join(where, "verdict") for where in outs], level + 1
     return merge(program, out, verdicts, more)
 
@@ -213,7 +262,7 @@ def main():
     shards = shards_of(asked.files, asked.shard_size)
     room = os.path.join(asked.out, "shards")
     os.makedirs(room, exist_ok=True)
-    tasks = [(i, os.path.join(room, f"{i:05}"), files) for i, files in enumerate(shards)]
+    tasks = [(i, os.path.join(room, f"{i:05}"), shard) for i, shard in enumerate(shards)]
     work = os.path.abspath(asked.program), job_of(asked)
     left = [task for task in tasks if not is_kept(task[1], asked_of(work[1], task[2]))]
     progress(f"shards: {len(tasks)} of {len(asked.files)} files, {len(left)} to do")

@@ -51,6 +51,7 @@ def failing_calls(harness):
         ("grep", ["--job", "grep", "--literal", "THE", "--fold"], text),
         ("url", ["--job", "url", "--parts", "2"], log),
         ("index", ["--job", "index", "--parts", "2"], text),
+        ("a range", ["--job", "grep", "--literal", "a", "--from", "22", "--to", "6"], text),
     ]:
         seq = ["seq", *options, *(["--skips", "0:1"] if name == "words" else []), "--out", ".", *files]
         whole, _ = with_failing(harness, library, "none", seq, files)
@@ -64,7 +65,8 @@ def failing_calls(harness):
             whole, _ = with_failing(harness, library, "none", words, given)
             short, _ = with_failing(harness, library, "short 0", words, given)
             harness.check(f"{words[0]} {name} a byte a call", short == whole and whole[0] == 0, repr(short))
-            for kind, status, said in (("malloc", 4, b"mapred: out of memory\n"), ("open", 3, b"mapred: cannot "), ("read", 3, b"mapred: cannot read "), ("write", 3, b"mapred: cannot write ")):
+            kinds = [("malloc", 4, b"mapred: out of memory\n"), ("open", 3, b"mapred: cannot "), ("read", 3, b"mapred: cannot read "), ("write", 3, b"mapred: cannot write ")]
+            for kind, status, said in kinds + [("seek", 3, b"mapred: cannot read ")] * (name == "a range"):
                 number, spared, marked = 0, 0, True
                 while marked:
                     number += 1

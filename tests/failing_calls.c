@@ -1,5 +1,5 @@
 /* Preloaded before the program, lets calls of the system fail. FAIL says which: "malloc 3" the third allocation (growing
-   one counts too), "read 3", "write 3" or "open 3" the third call of that kind, from 1, for want of memory where
+   one counts too), "read 3", "write 3", "seek 3" or "open 3" the third call of that kind, from 1, for want of memory where
    FAIL_MEMORY is set, and by an interruption where FAIL_INTERRUPTED is; "thread 3" lets the third thread
    that is asked for fail, and all behind it; "short 0" lets each read and write move one byte. The file that FAIL_MARK names is made when a
    call was let fail. */
@@ -21,7 +21,7 @@ __attribute__((constructor)) static void choose(void) {
     const char *fail = getenv("FAIL");
     if (!fail)
         return;
-    for (const char *const *name = (const char *const[]){"malloc", "read", "write", "open", "thread", "short", 0}; *name; name++)
+    for (const char *const *name = (const char *const[]){"malloc", "read", "write", "open", "seek", "thread", "short", 0}; *name; name++)
         if (!strncmp(fail, *name, strlen(*name))) {
             kind = *name;
             at = atol(fail + strlen(*name));
@@ -78,6 +78,10 @@ int open(const char *name, int flags, ...) {
     int mode = va_arg(more, int);
     va_end(more);
     return fails("open") ? failed(EACCES) : (int)syscall(SYS_open, name, flags, mode);
+}
+
+off_t lseek(int file, off_t at, int from) {
+    return fails("seek") ? failed(ESPIPE) : (off_t)syscall(SYS_lseek, file, at, from);
 }
 
 int pthread_create(pthread_t *thread, const pthread_attr_t *how, void *(*begin)(void *), void *with) {

@@ -413,6 +413,95 @@ def files_in_memory(harness):
         harness.check(f"files in memory, {part} and {certificate}", lines == sum(wanted, []), repr(lines))
 
 
+# Ranges and stretches of files in memory: a limit, the byte from which on the first file is taken, the one up to before which
+# the last one is, and the files; the bytes of each, and whether the last file ends there; or the number of the file that isn't
+# taken, and why. Of bytes past 100 only their number is told.
+
+OPEN, CLOSED, EMPTY, LONG, FAILING, MISSING = range(1, 7)
+ITS_END = 2**32 - 1
+SHORT = {OPEN: b"ab\ncd", CLOSED: b"ab\ncd\n", EMPTY: b""}
+AB, CD, OPEN_AS, CLOSED_AS, NOTHING = listed(b"ab\n"), listed(b"cd"), listed(b"ab\ncd"), listed(b"ab\ncd\n"), listed(b"")
+
+
+def range_as(data, limit, start, stop):
+    """What is told of a range of a file, by the rules."""
+    end = len(data) if stop == ITS_END else max(start, stop)
+    if max(start, end) > len(data):
+        return ["PastEnd"]
+    if start and data[start - 1] != 10:
+        return [f"InsideALine {start}"]
+    if end < len(data) and end and data[end - 1] != 10:
+        return [f"InsideALine {end}"]
+    return [listed(data[start:end]), str(end == len(data)).lower()] if end - start <= limit else ["TooLong"]
+
+
+LONG_RANGES = [
+    # 750 lines of two bytes
+    ((5000, 0, ITS_END, LONG), ["1500", "true"]),
+    ((1500, 0, ITS_END, LONG), ["1500", "true"]),
+    ((1499, 0, ITS_END, LONG), ["TooLong"]),
+    ((1499, 0, 1500, LONG), ["TooLong"]),
+    ((5000, 2, 1004, LONG), ["1002", "false"]),
+    ((1001, 2, 1004, LONG), ["TooLong"]),
+    ((100, 1498, 1500, LONG), [listed(b"x\n"), "true"]),
+    ((100, 1000, 1002, LONG), [listed(b"x\n"), "false"]),
+    ((100, 1500, ITS_END, LONG), [NOTHING, "true"]),
+    ((100, 1001, ITS_END, LONG), ["InsideALine 1001"]),
+    ((100, 1000, 1003, LONG), ["InsideALine 1003"]),
+    ((1, 1000, 1403, LONG), ["InsideALine 1403"]),
+    ((100, 1501, ITS_END, LONG), ["PastEnd"]),
+    ((100, 0, 1501, LONG), ["PastEnd"]),
+    ((100, 0, ITS_END, MISSING), ["cannot read missing"]),
+    ((100, 7, 9, MISSING), ["cannot read missing"]),
+    ((100, 0, ITS_END, FAILING), ["cannot read failing"]),
+]
+
+STRETCHES = [
+    ((0, 0, ITS_END), ["true"]),
+    ((0, 5, 2), ["true"]),
+    ((100, 3, 3, OPEN, CLOSED, OPEN), [CD, CLOSED_AS, AB, "false"]),
+    ((100, 3, 0, CLOSED, EMPTY, OPEN), [listed(b"cd\n"), NOTHING, NOTHING, "false"]),
+    ((100, 6, 0, CLOSED, OPEN), [NOTHING, NOTHING, "false"]),
+    ((100, 0, 5, CLOSED, OPEN), [CLOSED_AS, OPEN_AS, "true"]),
+    ((100, 0, 3, EMPTY, OPEN), [NOTHING, AB, "false"]),
+    ((100, 0, ITS_END, OPEN, EMPTY, CLOSED), [OPEN_AS, NOTHING, CLOSED_AS, "true"]),
+    ((5000, 3, 2, OPEN, LONG, LONG), [CD, "1500", listed(b"x\n"), "false"]),
+    # the first file is cut inside a line, and the last one; a byte of another file is none of theirs
+    ((100, 1, ITS_END, OPEN, CLOSED, EMPTY), ["0 InsideALine 1"]),
+    ((100, 0, 4, CLOSED, EMPTY, OPEN), ["2 InsideALine 4"]),
+    ((100, 3, 3, OPEN, LONG), ["1 InsideALine 3"]),
+    ((100, 0, 6, CLOSED, EMPTY, OPEN), ["2 PastEnd"]),
+    ((100, 7, ITS_END, CLOSED, LONG), ["0 PastEnd"]),
+    ((100, 1, ITS_END, EMPTY, LONG), ["0 PastEnd"]),
+    ((100, 0, ITS_END, OPEN, MISSING, FAILING), ["1 cannot read missing"]),
+    ((100, 0, 9, OPEN, FAILING, MISSING), ["1 cannot read failing"]),
+    # one limit for all, of what is taken
+    ((16, 0, ITS_END, OPEN, CLOSED, OPEN), [OPEN_AS, CLOSED_AS, OPEN_AS, "true"]),
+    ((15, 0, ITS_END, OPEN, CLOSED, OPEN), ["2 TooLong"]),
+    ((10, 0, ITS_END, OPEN, CLOSED, MISSING), ["1 TooLong"]),
+    ((4, 0, ITS_END, OPEN, CLOSED, OPEN), ["0 TooLong"]),
+    ((11, 3, 3, OPEN, CLOSED, OPEN), [CD, CLOSED_AS, AB, "false"]),
+    ((10, 3, 3, OPEN, CLOSED, OPEN), ["2 TooLong"]),
+]
+
+
+def rows_of_ranges():
+    """A range of one file, and the stretch of that file alone."""
+    places = (*range(8), ITS_END)
+    short = [((limit, start, stop, file), range_as(data, limit, start, stop)) for file, data in SHORT.items() for limit in (100, 1) for start in range(8) for stop in places]
+    for row, wanted in [*short, *LONG_RANGES]:
+        yield row, [*wanted, *([f"0 {wanted[0]}"] if len(wanted) == 1 else wanted)]
+
+
+def ranges(harness):
+    rows = [*rows_of_ranges(), *STRETCHES]
+    lines = told("ranges", "".join(" ".join(map(str, row)) + "\n" for row, _ in rows).encode())
+    for row, wanted in rows:
+        told_of, lines = lines[: len(wanted)], lines[len(wanted) :]
+        harness.check(f"range {row}", told_of == wanted, f"{told_of}, not {wanted}")
+    harness.check("no more answers than rows of ranges", lines == [])
+
+
 # Those that no row brings about, and whether any is another.
 FAULTS = [
     "TooLarge OutOfMemory OutOfMemory false false false",
@@ -435,5 +524,6 @@ GROUPS = {
     "stores in memory": built("mr_rows_tests", stores),
     "spelled certificates": built("mr_rows_tests", spelled_certificates),
     "files in memory": built("mr_rows_tests", files_in_memory),
+    "ranges of files": built("mr_rows_tests", ranges),
     "faults by name": built("mr_rows_tests", faults_by_name),
 }

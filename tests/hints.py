@@ -66,6 +66,11 @@ def limits(harness):
         ("a line feed in a literal", [*grep, "--literal", "x\ny", "a"], b"LineEndInLiteral", b"--literal holds no line feed, since lines are looked at one by one"),
         ("a line feed in a name", ["check", *WORDS, "--verdict", "v", "a", "x\ny"], b"LineEndInName file 1", b"--verdict tells each name in one line: give the file another name, or a link"),
         ("a verdict over an input", ["check", *WORDS, "--verdict", "./a", "a"], b"SameFile ./a", b"this file is read, or written under another name, and would be lost: give another name"),
+        ("a range and no file", [*seq, "--to", "1"], b"NoFileForRange", b"--from and --to speak of a FILE: name it"),
+        ("a range that ends before it begins", [*seq, "--from", "21", "--to", "0", "a"], b"BadRange", b"--to lies before --from"),
+        ("a range behind the file", [*seq, "--to", "43", "a"], b"PastEnd file 0", b"this file ends before --from or --to"),
+        ("a range inside a line", [*seq, "--from", "30", "a"], b"InsideALine file 0 byte 30", b"--from and --to stand where a line begins, or at the file's end: the nearest in a are 21 and 42"),
+        ("a range inside the first line", [*seq, "--to", "3", "a"], b"InsideALine file 0 byte 3", b"--from and --to stand where a line begins, or at the file's end: the nearest in a are 0 and 21"),
         ("a bad skip list", [*seq, "--skips", "0", "a"], b"bad skip list", b"--skips is SPLIT:RECORD,SPLIT:RECORD, as in 0:1,0:7"),
         ("too many files", [*seq, *["a"] * 1025], b"TooManyFiles", b"at most 1024 files: join some with cat, or cut the input into several runs"),
         ("too many left-out records", [*seq, "--skips", "0:1", "a"], b"TooManySkips", skips),
@@ -79,7 +84,7 @@ def limits(harness):
         where = harness.directory({})
         with open(os.path.join(where, "large"), "wb") as file:
             file.truncate((1 << 30) + 1)
-        told(harness, "a byte past 1 GiB", [*seq, "large"], 2, err=b"mapred: TooLarge\n", hint=b"at most 1 GiB (1073741824 bytes) in all files: cut the input into several runs", where=where)
+        told(harness, "a byte past 1 GiB", [*seq, "large"], 2, err=b"mapred: TooLarge\n", hint=b"at most 1 GiB (1073741824 bytes) in all files: cut the input into several runs, also inside a file by --from and --to", where=where)
         os.remove(os.path.join(where, "large"))
     told(harness, "a word that is not UTF-8", [*seq, b"\xff"], 2, err=b"mapred: a word of the command line is not UTF-8\n", hint=b"literals and names of files are UTF-8: give the file another name, or a link")
     got = on_terminal(harness, [*seq, "--parts", "x", "a"], harness.directory(TEXT))
@@ -202,6 +207,14 @@ def shards(harness):
     os.mkdir(os.path.join(where, "whole"))
     hint = b"the first verdict asks for nothing that is merged: where it is of an index, run that over all files"
     told(harness, "a shard of an index", ["merge", "--out", "whole", "verdict"], 1, err=b"mapred: NoRequest\n", hint=hint, where=where)
+    harness.run(["seq", *WORDS, "--from", "21", "a"], cwd=where)
+    harness.run(["check", *WORDS, "--from", "21", "--verdict", "verdict", "a"], cwd=where)
+    hint = b"this input begins inside its file, and the one before doesn't end there: name all shards, in order, or give --partial"
+    told(harness, "a shard that is the end of a file", ["merge", "--out", "whole", "verdict"], 1, err=b"mapred: NoBeginning input 0\n", hint=hint, where=where)
+    harness.run(["seq", *WORDS, "--to", "21", "a"], cwd=where)
+    harness.run(["check", *WORDS, "--to", "21", "--verdict", "verdict", "a"], cwd=where)
+    hint = b"this input ends before its file does, and the next one doesn't begin there: name all shards, in order, or give --partial"
+    told(harness, "a shard that is the front of a file", ["merge", "--out", "whole", "verdict"], 1, err=b"mapred: NoEnd input 0\n", hint=hint, where=where)
 
 
 def runs(harness):

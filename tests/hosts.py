@@ -153,7 +153,7 @@ def shards(harness):
         one, two, three = (made(harness, by_host, [name], [data], []) for name, data in files.items())
         keyed = [made(harness, by_key, [name], [data], []) for name, data in files.items()]
         name = f"by host by {made.__name__}"
-        harness.check(f"the verdict {name}", contents(one)["verdict"].startswith(b"verdict 1\njob 3\nflags 4\nliteral \npartitions 3\nsplit 64\n"), repr(contents(one)["verdict"]))
+        harness.check(f"the verdict {name}", contents(one)["verdict"].startswith(b"verdict 2\njob 3\nflags 4\nliteral \npartitions 3\nsplit 64\n"), repr(contents(one)["verdict"]))
         for request, given in ((by_host, [one, two, three]), (by_key, keyed)):
             where, (outputs, _, pairs) = harness.directory(), whole(request)
             got = merged(harness, where, given)

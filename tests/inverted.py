@@ -148,7 +148,7 @@ def shards(harness):
     for made in (write_shard, run_shard):
         one, two = (made(harness, index, [name], [data], []) for name, data in TWO.items())
         counted = made(harness, words, ["b"], [TWO["b"]], [])
-        harness.check("the verdict of an index", contents(one)["verdict"].startswith(b"verdict 1\njob 4\nflags 0\nliteral \npartitions 2\nsplit 16\n"), repr(contents(one)["verdict"]))
+        harness.check("the verdict of an index", contents(one)["verdict"].startswith(b"verdict 2\njob 4\nflags 0\nliteral \npartitions 2\nsplit 16\n"), repr(contents(one)["verdict"]))
         for name, given, said in [
             ("two shards", [one, two], b"NoRequest"),
             ("one shard", [one], b"NoRequest"),

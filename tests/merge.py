@@ -155,7 +155,7 @@ def far_record(shards):
 
 
 REFUSED = [
-    ("a text that is no verdict", edit("verdict", b"verdict 1", b"verdict 2"), 1, b"BadVerdict shard 1 line 0"),
+    ("a text that is no verdict", edit("verdict", b"verdict 2", b"verdict 3"), 1, b"BadVerdict shard 1 line 0"),
     ("a line too much", edit("verdict", b"emitted", b"more 1\nemitted"), 1, b"BadVerdict shard 1 line 9"),
     ("nothing at all", lambda shards: os.truncate(os.path.join(shards[0], "verdict"), 0), 1, b"BadVerdict shard 0 line 0"),
     ("no job of that number", other_request, 1, b"NoRequest"),
@@ -163,7 +163,7 @@ REFUSED = [
     ("another number of partitions", edit("verdict", b"partitions 2\n", b"partitions 3\n"), 1, b"OtherRequest shard 1"),
     ("an output too few", one_less, 1, b"OtherOutputs shard 1"),
     ("an input that came before", edit("verdict", b" b\n", b" a\n"), 1, b"RepeatedInput input 1"),
-    ("a record too far", far_record, 2, b"TooManySplits shard 1"),
+    ("a record too far", far_record, 2, b"PlaceTooFar shard 1"),
     ("more pairs than 64 bits", both_emit, 2, b"TooManyPairs"),
     ("a part of another length", edit("part-00000", b"\n", b"\n\n"), 1, b"OtherPart shard 1 partition 0"),
     ("a part with another digit", edit("part-00001", b"\t1", b"\t2"), 1, b"OtherPart shard 1 partition 1"),
@@ -180,10 +180,10 @@ REFUSED = [
 ]
 
 
-LEAST = b"verdict 1\njob 3\nflags 0\nliteral \npartitions 2\nsplit 1\nemitted 0\n"
+LEAST = b"verdict 2\njob 3\nflags 0\nliteral \npartitions 2\nsplit 1\nemitted 0\n"
 # What stands in the least verdict, what is put in its place, and the line at which the text is refused.
 BAD_TEXTS = [
-    (b"verdict 1", b"verdict 2", 0),
+    (b"verdict 2", b"verdict 3", 0),
     (b"job 3", b"job 03", 1),
     (b"job 3", b"job", 1),
     (b"literal \n", b"literal\n", 3),
@@ -291,7 +291,7 @@ def first_and_other(first, *others):
 
 # Of several faults the first is told: of one kind that of the first shard, of several kinds that which is tested first.
 FIRST_FAULTS = [
-    ("two texts that are no verdicts", in_both("verdict", b"verdict 1", b"verdict 2"), b"BadVerdict shard 1 line 0"),
+    ("two texts that are no verdicts", in_both("verdict", b"verdict 2", b"verdict 3"), b"BadVerdict shard 1 line 0"),
     ("two other requests", in_both("verdict", b"split 16\n", b"split 17\n"), b"OtherRequest shard 1"),
     ("two parts that are others", in_both("part-00001", b"\t1", b"\t2"), b"OtherPart shard 1 partition 1"),
     ("two parts of which the first shard's is of a later partition", first_and_other(edit("part-00001", b"\t1", b"\t2"), lambda shards: changed(shards[2], "part-00000", b"\t1", b"\t2")), b"OtherPart shard 2 partition 0"),

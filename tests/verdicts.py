@@ -3,7 +3,7 @@ import hashlib
 import os
 
 from harness import seeded, write_result
-from plain import JOBS, judged, produced
+from plain import JOBS, judged, named_records, produced
 from producer import options_of, random_job
 
 TEXT = {"a": b"The cat saw the dog.\n\nThe dog saw nothing.\n", "b": b"a cat\n"}
@@ -15,15 +15,33 @@ def note(word, name, data):
     return b"%s %s %d %s\n" % (word, hashlib.sha256(data).hexdigest().encode(), len(data), os.fsencode(name))
 
 
-def verdict_text(request, files, outputs, skips, pairs):
-    """The verdict about files by their names, and about outputs."""
-    numbers = [("verdict", 1), ("job", JOBS[request.job]), ("flags", request.flags())]
+def range_note(name, data, start=0, goes_on=False):
+    """The line of a range of an input, which begins there in its file; its file goes on behind it, or not."""
+    ending = b"more" if goes_on else b"open" if data and not data.endswith(b"\n") else b"end"
+    return b"input %s %d %d %s %s\n" % (hashlib.sha256(data).hexdigest().encode(), len(data), start, ending, os.fsencode(name))
+
+
+def spots_of(request, files, skips):
+    """Where the records begin that are left out: the number of the file, and the byte there."""
+    left = set(skips)
+    return [(file, start) for name, file, start, _ in named_records(files, request.split) if name in left]
+
+
+def told_verdict(request, inputs, outputs, spots, pairs):
+    """The verdict with these lines of inputs."""
+    numbers = [("verdict", 2), ("job", JOBS[request.job]), ("flags", request.flags())]
     out = [b"%s %d\n" % (word.encode(), number) for word, number in numbers]
     out += [b"literal %s\n" % request.literal, b"partitions %d\nsplit %d\n" % (request.parts, request.split)]
-    out += [note(b"input", name, data) for name, data in files]
-    out += [note(b"output", f"part-{p:05}", data) for p, data in enumerate(outputs)]
-    out += [b"without %d %d\n" % skip for skip in skips]
+    out += [*inputs, *(note(b"output", f"part-{p:05}", data) for p, data in enumerate(outputs))]
+    out += [b"without %d %d\n" % spot for spot in spots]
     return b"".join([*out, b"emitted %d\n" % pairs])
+
+
+def verdict_text(request, files, outputs, skips, pairs):
+    """The verdict about whole files by their names, and about outputs."""
+    files = list(files)
+    spots = spots_of(request, [data for _, data in files], skips)
+    return told_verdict(request, [range_note(name, data) for name, data in files], outputs, spots, pairs)
 
 
 def contents(where):
@@ -119,7 +137,7 @@ def over_what_was_judged(harness):
     harness.check("over a certificate that isn't there", got == (2, b"", b"mapred: SameFile ./certificate\n") and contents(where) == stands, repr(got))
     where = harness.run(["seq", *WORDS, *TEXT], TEXT)[3]
     got = harness.run(["check", *WORDS, "--verdict", "/dev/stdout", *TEXT], cwd=where)[:3]
-    harness.check("a verdict on standard output", got[0] == 0 and got[1].startswith(b"verdict 1\n") and got[1].endswith(b"yes: 11 pairs, 0 left out\n"), repr(got))
+    harness.check("a verdict on standard output", got[0] == 0 and got[1].startswith(b"verdict 2\n") and got[1].endswith(b"yes: 11 pairs, 0 left out\n"), repr(got))
 
 
 GROUPS = {"verdicts": texts, "verdicts not written": not_written, "verdicts refused": refused, "verdicts over what was judged": over_what_was_judged}

@@ -19,3 +19,8 @@ cat both/part-00001
 
 engines/shards.py --out all --job words --parts 2 a.txt b.txt
 # merged: 2 files, 9 pairs, 0 left out
+
+cat a.txt b.txt > large.txt
+engines/shards.py --out cut --job words --parts 2 --shard-size 30 large.txt
+# merged: 2 files, 9 pairs, 0 left out
+cmp cut/part-00001 both/part-00001

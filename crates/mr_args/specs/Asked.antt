@@ -1,6 +1,6 @@
 -- What the options of the line ask for.
 use Rattle.std.specs.Prelude.{◌≡◌, ◌≢◌, ◌⊎◌, ℕ, ◌^◌, ◌<◌, ◌≤◌, Bool, true, IsSome, List, [], length, codes, Contains, if◌then◌else◌, ⊤}
-use Rattle.std.specs.Option.{option_map_or}
+use Rattle.std.specs.Option.{ForSome, IsSomeAnd, option_map_or}
 use Rattle.mr_bytes.specs.declared.By.TheVariants.{Key, Host}
 use Rattle.mr_jobs.specs.JobSpec.{JobSpec, WordCount, LinesWith, Resources, InvertedIndex, RequestSpec, PartsFit, SplitFits}
 use Rattle.mr_jobs.specs.declared.job.JobFault.{JobFault}
@@ -8,7 +8,7 @@ use Rattle.mr_jobs.specs.declared.job.JobFault.TheVariants as literal_fault
 use Rattle.mr_jobs.specs.declared.request.RequestFault.{RequestFault}
 use Rattle.mr_jobs.specs.declared.request.RequestFault.TheVariants.{BadParts, BadSplitSize, BadSkips, HostNeedsUrl}
 use Rattle.mr_args.specs.declared.fault.Fault.{Fault}
-use Rattle.mr_args.specs.declared.fault.Fault.TheVariants.{OtherJobsOption, Job, Request, OutOfMemory}
+use Rattle.mr_args.specs.declared.fault.Fault.TheVariants.{OtherJobsOption, Job, Request, NoFileForRange, BadRange, OutOfMemory}
 use Rattle.mr_args.specs.declared.request.Options.{Options}
 use Rattle.mr_args.specs.declared.request.JobKind.{JobKind}
 use Rattle.mr_args.specs.declared.request.JobKind.TheVariants.{Words, Grep, Url, Index}
@@ -82,7 +82,24 @@ IsJobRefusal o (Job fault) = ¬ AsksForOtherJob o × (o.job ≡ Grep) × IsLiter
 IsJobRefusal o OutOfMemory = ⊤
 IsJobRefusal o fault = ⊥
 
--- why they ask for no request: faults of the job are told before those of the numbers
+-- why they make no request: faults of the job are told before those of the numbers
+abbrev pub IsNumbersRefusal : Options → Fault → Type 0
+IsNumbersRefusal o (Request fault) = ¬ AsksForOtherJob o × LiteralFits (request_asked o).job × IsNumberFault (request_asked o) fault
+IsNumbersRefusal o fault = IsJobRefusal o fault
+
+-- where there is no file, none is taken from a byte on or up to one; one file isn't taken up to before its first byte
+pub record RangeStands (o : Options) : Type 0 where
+  pub none : length o.files.items ≡ 0 → (o.from ≡ 0) × ForSome o.to (λ t. t ≡ 0)
+  pub one : length o.files.items ≡ 1 → ForSome o.to (λ t. o.from ≤ t)
+
+-- why the range doesn't stand
+abbrev pub IsRangeRefusal : Options → Fault → Type 0
+IsRangeRefusal o NoFileForRange = (length o.files.items ≡ 0) × ((0 < o.from) ⊎ IsSomeAnd o.to (λ t. 0 < t))
+IsRangeRefusal o BadRange = (length o.files.items ≡ 1) × IsSomeAnd o.to (λ t. t < o.from)
+IsRangeRefusal o fault = ⊥
+
+-- why they ask for no request: a fault of the range is told behind all others
 abbrev pub IsRequestRefusal : Options → Fault → Type 0
-IsRequestRefusal o (Request fault) = ¬ AsksForOtherJob o × LiteralFits (request_asked o).job × IsNumberFault (request_asked o) fault
-IsRequestRefusal o fault = IsJobRefusal o fault
+IsRequestRefusal o NoFileForRange = ¬ AsksForOtherJob o × WithinLimits (request_asked o) × IsRangeRefusal o NoFileForRange
+IsRequestRefusal o BadRange = ¬ AsksForOtherJob o × WithinLimits (request_asked o) × IsRangeRefusal o BadRange
+IsRequestRefusal o fault = IsNumbersRefusal o fault

@@ -16,9 +16,12 @@ use Rattle.mr_shard_files.specs.declared.fault.ShardFault.TheVariants as shards
 -- 1 where the shards aren't what their verdicts say, or not shards of the whole that is meant; 2 for usage or a limit
 abbrev pub status_of_shards : ShardFault → ℕ
 status_of_shards (shards.BadVerdict shard line) = 1
+status_of_shards (shards.OldVerdict shard) = 1
 status_of_shards shards.NoRequest = 1
 status_of_shards (shards.OtherRequest shard) = 1
+status_of_shards (shards.NoBeginning input) = 1
 status_of_shards (shards.RepeatedInput input) = 1
+status_of_shards (shards.NoEnd input) = 1
 status_of_shards (shards.OtherInputs line) = 1
 status_of_shards (shards.OtherPart shard partition) = 1
 status_of_shards (shards.BadLine shard partition line) = 1

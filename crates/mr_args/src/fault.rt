@@ -17,6 +17,14 @@ pub enum Fault {
     OtherJobsOption,
     Job(JobFault),
     Request(RequestFault),
+    /// A byte to begin or to end at that isn't 0, and no file.
+    NoFileForRange,
+    /// One file, taken up to before a byte that lies before the one from which on it is taken.
+    BadRange,
+    /// This input file, numbered from 0, ends before the byte at which it is to begin or to end.
+    PastEnd { file: usize },
+    /// No line of this input file begins at this byte.
+    InsideALine { file: usize, byte: u64 },
     BadSkipList,
     Input(InputFault),
     TooManySplits,
@@ -127,9 +135,12 @@ fn shards_status(fault: &ShardFault) -> u8
 {
     match fault {
         ShardFault::BadVerdict { .. }
+        | ShardFault::OldVerdict { .. }
         | ShardFault::NoRequest
         | ShardFault::OtherRequest { .. }
+        | ShardFault::NoBeginning { .. }
         | ShardFault::RepeatedInput { .. }
+        | ShardFault::NoEnd { .. }
         | ShardFault::OtherInputs { .. }
         | ShardFault::OtherPart { .. }
         | ShardFault::BadLine { .. }
@@ -164,6 +175,12 @@ impl fmt::Display for Fault {
             Fault::OtherJobsOption => write_told(f, &"option does not belong to this job"),
             Fault::Job(fault) => write_told(f, fault),
             Fault::Request(fault) => write_told(f, fault),
+            Fault::NoFileForRange => write_told(f, &"NoFileForRange"),
+            Fault::BadRange => write_told(f, &"BadRange"),
+            Fault::PastEnd { file } => write!(f, "mapred: PastEnd file {file}\n"),
+            Fault::InsideALine { file, byte } => {
+                write!(f, "mapred: InsideALine file {file} byte {byte}\n")
+            }
             Fault::BadSkipList => write_told(f, &"bad skip list"),
             Fault::Input(fault) => write_told(f, fault),
             Fault::TooManySplits => write_told(f, &"TooManySplits"),

@@ -1,7 +1,8 @@
 //! The options of each command, the request that they make, and the parser of skip lists.
 ghost use Rattle.std.specs.Prelude.{◌≡◌, ◌↔◌, IfOk, IfErr, OnOk, IsTrue, ◌⊎◌, List, [], ◌∷◌, ◌++◌};
 ghost use Rattle.std.specs.Prelude.{MatchOption};
-ghost use Rattle.mr_args.specs.Asked.{AsksForOtherJob, IsJobRefusal, IsRequestRefusal, LiteralFits};
+ghost use Rattle.mr_args.specs.Asked.{AsksForOtherJob, IsJobRefusal, IsNumbersRefusal};
+ghost use Rattle.mr_args.specs.Asked.{IsRangeRefusal, IsRequestRefusal, LiteralFits, RangeStands};
 ghost use Rattle.mr_args.specs.Asked.{WithinLimits, request_asked};
 ghost use Rattle.mr_bytes.specs.declared.RecordName.{RecordName};
 ghost use Rattle.mr_args.specs.SkipList.{Lacks, SpellsName, SpellsNames, OneSkipList};
@@ -32,6 +33,10 @@ pub struct Options<'a> {
     pub fold: bool,
     pub by_host: bool,
     pub max_skips: u32,
+    /// The byte of the first file from which on it is taken.
+    pub from: u64,
+    /// The byte of the last file up to before which it is taken; without one, all of it is.
+    pub to: Option<u64>,
     pub out: &'a str,
     pub files: Vec<&'a str>,
 }
@@ -73,6 +78,8 @@ pub struct CheckOptions<'a> {
 pub struct MergeOptions<'a> {
     pub out: &'a str,
     pub inputs: Option<&'a str>,
+    /// The first input may begin inside its file, and the last one may end inside it.
+    pub partial: bool,
     pub verdicts: Vec<&'a str>,
 }
 
@@ -119,12 +126,13 @@ fn job_of(alloc: Global, options: &Options<'_>) -> Result<Job, Fault>
     }
 }
 
-/// The request that the options make. It reports a fault of the job before one of the numbers.
-pub fn request_of(alloc: Global, options: &Options<'_>) -> Result<Request, Fault>
+/// The request that the job and the numbers make. It reports a fault of the job before one of the
+/// numbers.
+fn request_by_numbers(alloc: Global, options: &Options<'_>) -> Result<Request, Fault>
     ensures request { IfOk result (λ r. r ≡ request_asked options.now) }
     ensures within { OnOk result (WithinLimits (request_asked options.now)) }
     ensures other { (result ≡ Err Fault.OtherJobsOption) ↔ AsksForOtherJob options.now }
-    ensures fault { IfErr result (λ e. IsRequestRefusal options.now e) }
+    ensures fault { IfErr result (λ e. IsNumbersRefusal options.now e) }
 {
     let job = job_of(alloc, options)?;
     let request = Request::new(job, options.parts, options.split, options.max_skips).map_err(
@@ -133,6 +141,36 @@ pub fn request_of(alloc: Global, options: &Options<'_>) -> Result<Request, Fault
     if options.by_host {
         return request.by_host().map_err(Fault::Request);
     }
+    Ok(request)
+}
+
+/// Checks the bytes from which on and up to before which the files are taken.
+fn expect_range(options: &Options<'_>) -> Result<(), Fault>
+    ensures stands { OnOk result (RangeStands options.now) }
+    ensures fault { IfErr result (λ e. IsRangeRefusal options.now e) }
+{
+    let files = options.files.len();
+    let to = options.to.unwrap_or(options.from);
+    if files == 0 && (options.from > 0 || to > 0) {
+        return Err(Fault::NoFileForRange);
+    }
+    if files == 1 && to < options.from {
+        return Err(Fault::BadRange);
+    }
+    Ok(())
+}
+
+/// The request that the options make. It reports a fault of the job before one of the numbers, and
+/// one of the range last.
+pub fn request_of(alloc: Global, options: &Options<'_>) -> Result<Request, Fault>
+    ensures request { IfOk result (λ r. r ≡ request_asked options.now) }
+    ensures within { OnOk result (WithinLimits (request_asked options.now)) }
+    ensures range { OnOk result (RangeStands options.now) }
+    ensures other { (result ≡ Err Fault.OtherJobsOption) ↔ AsksForOtherJob options.now }
+    ensures fault { IfErr result (λ e. IsRequestRefusal options.now e) }
+{
+    let request = request_by_numbers(alloc, options)?;
+    expect_range(options)?;
     Ok(request)
 }
 

@@ -16,14 +16,19 @@ use Rattle.mr_args.specs.declared.request.Subcommand.{Subcommand}
 use Rattle.mr_args.specs.declared.request.Subcommand.TheVariants.{Seq, Run, Check, Merge}
 use Rattle.mr_args.specs.Asked.{Names}
 
--- decimal digits, a plus allowed in front, whose number fits in 32 bits
-abbrev pub WritesNumber : List ℕ → Type 0
-WritesNumber text = IsNumeral 10 (without_leading_plus text) × (digits_value 10 (without_leading_plus text) < 2 ^ 32)
+-- decimal digits, a plus allowed in front, whose number is below this one
+abbrev pub WritesNumber : ℕ → List ℕ → Type 0
+WritesNumber most text = IsNumeral 10 (without_leading_plus text) × (digits_value 10 (without_leading_plus text) < most)
 
--- the number that the text writes; without one, the number that stands for none
+-- the number of 32 bits that the text writes; without one, the number that stands for none
 abbrev pub IsNumberOf : Option (List ℕ) → ℕ → ℕ → Type 0
 IsNumberOf None none n = n ≡ none
-IsNumberOf (Some text) none n = (WritesNumber text → n ≡ digits_value 10 (without_leading_plus text)) × (¬ WritesNumber text → n ≡ none)
+IsNumberOf (Some text) none n = (WritesNumber (2 ^ 32) text → n ≡ digits_value 10 (without_leading_plus text)) × (¬ WritesNumber (2 ^ 32) text → n ≡ none)
+
+-- the place in a file that the text writes, in 64 bits; none without one
+abbrev pub IsByteOf : Option (List ℕ) → Option ℕ → Type 0
+IsByteOf None n = n ≡ None
+IsByteOf (Some text) n = (WritesNumber (2 ^ 64) text → n ≡ Some (digits_value 10 (without_leading_plus text))) × (¬ WritesNumber (2 ^ 64) text → n ≡ None)
 
 abbrev pub IsFlagOf : Option (List ℕ) → Bool → Type 0
 IsFlagOf None flag = flag ≡ false
@@ -44,6 +49,8 @@ pub record AreOptionsOf (found : Found) (o : Options) : Type 0 where
   pub parts : IsNumberOf (one_text found (codes "parts")) 1 o.parts
   pub split : IsNumberOf (one_text found (codes "split")) (2 ^ 26) o.split
   pub max_skips : IsNumberOf (one_text found (codes "max-skips")) 0 o.max_skips
+  pub from : (n : Option ℕ) × IsByteOf (one_text found (codes "from")) n × (o.from ≡ unwrap_or n 0)
+  pub to : IsByteOf (one_text found (codes "to")) o.to
   pub keep_case : IsFlagOf (one_text found (codes "keep-case")) o.keep_case
   pub fold : IsFlagOf (one_text found (codes "fold")) o.fold
   pub by_host : IsFlagOf (one_text found (codes "by-host")) o.by_host
@@ -77,6 +84,7 @@ pub record AreCheckOptionsOf (found : Found) (o : CheckOptions) : Type 0 where
 pub record AreMergeOptionsOf (found : Found) (o : MergeOptions) : Type 0 where
   pub out : o.out.now ≡ unwrap_or (first_value found (codes "out")) (codes ".")
   pub inputs : option_map (λ s. s.now) o.inputs ≡ first_value found (codes "inputs")
+  pub partial : IsFlagOf (one_text found (codes "partial")) o.partial
   pub verdicts : map (λ s. s.now) o.verdicts.items ≡ option_map_or raw_values (matched_of found (codes "verdicts")) []
 
 -- the subcommand is that of its own name, and its options are those of its matches

@@ -127,23 +127,45 @@ fn job_difference(alloc: Global, front: &Front, request: &Request) -> Result<Str
     Ok(text)
 }
 
-/// Another number of files, or the first file with another length.
+/// How many bytes are taken of the file with that number, which has so many.
+fn taken_of(options: &Options<'_>, file: usize, length: u64) -> u64 {
+    let from = if file == 0 { options.from } else { 0 };
+    let is_last = file.saturating_add(1) == options.files.len();
+    let to = match options.to {
+        Some(to) if is_last => to.min(length),
+        _ => length,
+    };
+    to.saturating_sub(from)
+}
+
+/// Another number of files, or the first file of which other bytes are taken, by their number.
 fn input_difference<L: Inspect>(
     look: &L,
     alloc: Global,
     front: &Front,
-    names: &[&str],
+    options: &Options<'_>,
 ) -> Result<String, AllocError> {
-    let (was, is) = (front.lengths.len(), names.len());
+    let (was, is) = (front.lengths.len(), options.files.len());
     if was != is {
         return format!(in alloc; "the certificate is of {was} files, not {is}");
     }
-    for (length, name) in front.lengths.iter().zip(names) {
-        if let PathKind::File(now) = look.path_kind(name)
-            && now != *length
-        {
-            return format!(in alloc; "{name} has {now} bytes, and had {length} by the certificate");
+    for (file, length) in front.lengths.iter().enumerate() {
+        let name = options.files[file];
+        let PathKind::File(now) = look.path_kind(name) else {
+            continue;
+        };
+        let taken = taken_of(options, file, now);
+        if taken == *length {
+            continue;
         }
+        return match taken == now {
+            true => format!(in alloc;
+                "{name} has {now} bytes, and had {length} by the certificate"
+            ),
+            false => format!(in alloc;
+                "{taken} bytes of {name} are taken, and by the certificate it were {length}"
+            ),
+        };
     }
     Ok(String::new(alloc))
 }
@@ -168,7 +190,7 @@ fn check_hint<S: Store + Inspect>(
     }
     match request_of(alloc, options) {
         Ok(request) if is_other_job => job_difference(alloc, &front, &request),
-        _ => input_difference(store, alloc, &front, options.files.as_slice()),
+        _ => input_difference(store, alloc, &front, options),
     }
 }
 

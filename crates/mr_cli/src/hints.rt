@@ -4,6 +4,7 @@
 
 use crate::differences::verdict_hint;
 use crate::failure::{Failure, escape};
+use crate::nearest::line_hint;
 use crate::options::{command, subcommand_of};
 use crate::program::{answer, finish};
 use crate::progress::{ProgressLine, notes};
@@ -83,6 +84,9 @@ fn print_answer<F: Store + Inspect, C: Clock, O: Write, E: Write>(
     let Terminal { out, err, .. } = terminal;
     let hint = match (&answered, asked) {
         (Ok(said), Some(asked)) => verdict_hint(files, alloc, asked, said.text.as_str()),
+        (Err(Failure::Command(Fault::InsideALine { file, byte })), Some(asked)) => range_hint(
+            files, alloc, asked, *file, *byte,
+        ),
         (Err(Failure::Command(fault)), _) => fault_hint(files, alloc, fault),
         (Err(Failure::NotUtf8), _) => String::from_str(alloc, NOT_UTF8),
         _ => Ok(String::new(alloc)),
@@ -161,7 +165,7 @@ fn input_cure(fault: &InputFault) -> &'static str {
         InputFault::TooManyFiles =>
             "at most 1024 files: join some with cat, or cut the input into several runs",
         InputFault::TooLarge =>
-            "at most 1 GiB (1073741824 bytes) in all files: cut the input into several runs",
+            "at most 1 GiB (1073741824 bytes) in all files: cut the input into several runs, also inside a file by --from and --to",
     }
 }
 
@@ -188,6 +192,12 @@ fn shards_cure(fault: &ShardFault) -> &'static str {
             "all shards have the options of the first: run this one again with those, and judge it",
         ShardFault::OtherOutputs { .. } =>
             "the verdict doesn't tell of one part for each partition: judge the shard again",
+        ShardFault::OldVerdict { .. } =>
+            "this verdict is of version 1, and names left-out records by their splits: judge the shard again",
+        ShardFault::NoBeginning { .. } =>
+            "this input begins inside its file, and the one before doesn't end there: name all shards, in order, or give --partial",
+        ShardFault::NoEnd { .. } =>
+            "this input ends before its file does, and the next one doesn't begin there: name all shards, in order, or give --partial",
         ShardFault::RepeatedInput { .. } =>
             "name each verdict once; where two shards have a file of one name, give one another name and judge its shard again",
         ShardFault::OtherInputs { .. } =>
@@ -200,15 +210,14 @@ fn shards_cure(fault: &ShardFault) -> &'static str {
             "--out is the folder of that shard, whose parts are read while the result is written: name another",
         ShardFault::LongVerdict { .. } => "a verdict has at most 1 GiB",
         ShardFault::LongList => "the list of inputs has at most 1 GiB",
-        ShardFault::TooManySplits { .. } =>
-            "splits of all shards are numbered in 32 bits: run the shards with a greater --split",
         ShardFault::NoSuchFile { .. } =>
             "the part tells a file that its verdict doesn't: run the shard again, and judge it",
         ShardFault::TooManyFiles =>
             "files of all shards are numbered in 32 bits: merge fewer shards",
         ShardFault::TooManyPairs
         | ShardFault::TotalTooLarge { .. }
-        | ShardFault::PlaceTooFar { .. } => "",
+        | ShardFault::PlaceTooFar { .. }
+        | ShardFault::FarPlace { .. } => "",
         ShardFault::CannotRead(_) | ShardFault::CannotWrite(_) | ShardFault::SameFile(_) => "",
         ShardFault::OutOfMemory => MEMORY,
     }
@@ -221,6 +230,11 @@ fn remedy(fault: &Fault) -> &'static str {
             "--keep-case belongs to words and index, --literal and --fold to grep, --by-host to url",
         Fault::Job(fault) => job_cure(fault),
         Fault::Request(fault) => request_cure(fault),
+        Fault::NoFileForRange => "--from and --to speak of a FILE: name it",
+        Fault::BadRange => "--to lies before --from",
+        Fault::PastEnd { .. } => "this file ends before --from or --to",
+        Fault::InsideALine { .. } =>
+            "--from and --to stand where a line begins, or at the file's end",
         Fault::BadSkipList => "--skips is SPLIT:RECORD,SPLIT:RECORD, as in 0:1,0:7",
         Fault::Input(fault) => input_cure(fault),
         Fault::TooManySplits =>
@@ -254,6 +268,26 @@ pub fn fault_hint<L: Inspect>(
             "{reason}"
         ),
         _ => String::from_str(alloc, remedy(fault)),
+    }
+}
+
+/// The hint for a byte inside a line of the file with that number; empty if there is none.
+fn range_hint<S: Store>(
+    store: &S,
+    alloc: Global,
+    asked: &Subcommand<'_>,
+    file: usize,
+    byte: u64,
+) -> Result<String, AllocError> {
+    let options = match asked {
+        Subcommand::Seq(asked) => &asked.options,
+        Subcommand::Run(asked) => &asked.options,
+        Subcommand::Check(asked) => &asked.options,
+        Subcommand::Merge(_) => return Ok(String::new(alloc)),
+    };
+    match options.files.as_slice().get(file) {
+        Some(name) => line_hint(store, alloc, name, byte),
+        None => Ok(String::new(alloc)),
     }
 }
 

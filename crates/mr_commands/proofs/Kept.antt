@@ -20,7 +20,7 @@ use Rattle.mr_commands.specs.declared.running.RunOutcome.{RunOutcome}
 use Rattle.mr_commands.specs.HistoryLines.{history_text}
 use Rattle.mr_args.specs.Asked.{request_asked}
 use Rattle.mr_commands.specs.Inputs.{IsInput, IsInputRefusal}
-use Rattle.mr_commands.specs.Named.{input_names, named}
+use Rattle.mr_commands.specs.Named.{named, stretch_of}
 use Rattle.mr_args.specs.Statuses.{ReportsFile}
 use Rattle.mr_commands.specs.Runs.{AreGood, BeginsHistory, EndsOver, IsHistoryKept, IsResultKept, IsResultRefused, IsResultStopped, IsScratchClash, IsScratchRefusal, IsScript, IsScriptRefusal, IsStartRefusal, IsStoppedAt, IsUnkept, KeepsHistory, KeepsResult, Runs, history_name, history_of, names_left, read_by_run, scratch_name, script_name, written_by_run}
 
@@ -29,23 +29,23 @@ module _ (holds : Stored) (unreadable : Faulty) (alike : List ℕ → List ℕ �
   script_stage e a h = inr (inr (inl (a, h)))
 
   pub input_stage : (script : List Directive) (request : RequestSpec) (e : Fault) → request ≡ request_asked o.options → AreGood o → IsScript holds (script_name o) script
-      → IsInputRefusal holds unreadable known (input_names o.options) (read_by_run o) (written_by_run o) request.split e → IsStartRefusal holds unreadable alike known o e
+      → IsInputRefusal holds unreadable known (stretch_of o.options) (read_by_run o) (written_by_run o) request.split e → IsStartRefusal holds unreadable alike known o e
   input_stage script request e r a s h =
-      inr (inr (inr (inl (a, (script, s), subst (λ (s : ℕ). IsInputRefusal holds unreadable known (input_names o.options) (read_by_run o) (written_by_run o) s e) (ap (λ (v : RequestSpec). v.split) r) h))))
+      inr (inr (inr (inl (a, (script, s), subst (λ (s : ℕ). IsInputRefusal holds unreadable known (stretch_of o.options) (read_by_run o) (written_by_run o) s e) (ap (λ (v : RequestSpec). v.split) r) h))))
 
   pub scratch_stage : (script : List Directive) (files : List (List ℕ)) (request : RequestSpec) (e : Fault) → request ≡ request_asked o.options → AreGood o
-      → IsScript holds (script_name o) script → IsInput holds (input_names o.options) request.split files → AreApart known (read_by_run o) (written_by_run o)
+      → IsScript holds (script_name o) script → IsInput holds (stretch_of o.options) request.split files → AreApart known (read_by_run o) (written_by_run o)
       → IsScratchClash alike (read_by_run o ++ written_by_run o) (scratch_name o) e ⊎ IsScratchRefusal (scratch_name o) e → IsStartRefusal holds unreadable alike known o e
   scratch_stage script files request e r a s i apart h =
-      inr (inr (inr (inr (a, (script, s), (files, subst (λ (s : ℕ). IsInput holds (input_names o.options) s files) (ap (λ (v : RequestSpec). v.split) r) i), apart, h))))
+      inr (inr (inr (inr (a, (script, s), (files, subst (λ (s : ℕ). IsInput holds (stretch_of o.options) s files) (ap (λ (v : RequestSpec). v.split) r) i), apart, h))))
 
   pub runs : (script : List Directive) (files : List (List ℕ)) (request : RequestSpec) (ran : RunOutcome)
-      → request ≡ request_asked o.options → IsScript holds (script_name o) script → IsInput holds (input_names o.options) request.split files → AreApart known (read_by_run o) (written_by_run o)
+      → request ≡ request_asked o.options → IsScript holds (script_name o) script → IsInput holds (stretch_of o.options) request.split files → AreApart known (read_by_run o) (written_by_run o)
       → EndsOver (scratch_name o) request files script (run_shape request files o.workers o.attempts) o.version ran → Runs holds known o ran
   runs script files request ran r s i apart h = record {
     files = files;
     script = script;
-    input = subst (λ (s : ℕ). IsInput holds (input_names o.options) s files) (ap (λ (v : RequestSpec). v.split) r) i;
+    input = subst (λ (s : ℕ). IsInput holds (stretch_of o.options) s files) (ap (λ (v : RequestSpec). v.split) r) i;
     apart = apart;
     scripted = s;
     ends = subst (λ (v : RequestSpec). EndsOver (scratch_name o) v files script (run_shape v files o.workers o.attempts) o.version ran) r h;

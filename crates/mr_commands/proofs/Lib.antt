@@ -1,4 +1,3 @@
-pub mod Inputs
 pub mod Refused
 pub mod Kept
 pub mod JudgingInputs

@@ -22,30 +22,30 @@ use Rattle.mr_args.specs.Asked.{request_asked}
 use Rattle.mr_commands.specs.Answers.{AnswersSeq, IsRunRefusal, IsWorkRefusal, IsSeqRefusal, WorksOut, written_by_seq}
 use Rattle.mr_commands.proofs.JudgingRefused.{stopped_as}
 use Rattle.mr_commands.specs.Inputs.{IsAsked, IsInput, IsInputRefusal}
-use Rattle.mr_commands.specs.Named.{input_names}
+use Rattle.mr_commands.specs.Named.{input_names, stretch_of}
 use Rattle.mr_args.specs.Statuses.{ReportsFile}
 use Rattle.mr_bytes.specs.declared.RecordName.{RecordName}
 use Rattle.mr_args.specs.SkipList.{SpellsNames}
 
 pub work_input_stage : (holds : Stored) (unreadable : Faulty) (known : Known) (o : SeqOptions) (skips : List RecordName) (request : RequestSpec) (e : Fault)
     → request ≡ request_asked o.options → IsAsked o.options → SpellsNames o.skips.now skips
-    → IsInputRefusal holds unreadable known (input_names o.options) (input_names o.options) (written_by_seq o) request.split e → IsWorkRefusal holds unreadable known o e
+    → IsInputRefusal holds unreadable known (stretch_of o.options) (input_names o.options) (written_by_seq o) request.split e → IsWorkRefusal holds unreadable known o e
 work_input_stage holds unreadable known o skips request e r a s h =
-    inr (inr (inl (a, (skips, s), subst (λ (s : ℕ). IsInputRefusal holds unreadable known (input_names o.options) (input_names o.options) (written_by_seq o) s e) (ap (λ (v : RequestSpec). v.split) r) h)))
+    inr (inr (inl (a, (skips, s), subst (λ (s : ℕ). IsInputRefusal holds unreadable known (stretch_of o.options) (input_names o.options) (written_by_seq o) s e) (ap (λ (v : RequestSpec). v.split) r) h)))
 
 pub work_run_stage : (holds : Stored) (unreadable : Faulty) (known : Known) (o : SeqOptions) (skips : List RecordName) (files : List (List ℕ)) (request : RequestSpec) (e : Fault)
-    → request ≡ request_asked o.options → IsAsked o.options → SpellsNames o.skips.now skips → IsInput holds (input_names o.options) request.split files
+    → request ≡ request_asked o.options → IsAsked o.options → SpellsNames o.skips.now skips → IsInput holds (stretch_of o.options) request.split files
     → AreApart known (input_names o.options) (written_by_seq o) → IsRunRefusal request files skips e → IsWorkRefusal holds unreadable known o e
 work_run_stage holds unreadable known o skips files request e r a s i apart h =
-    inr (inr (inr (a, (files, skips, subst (λ (s : ℕ). IsInput holds (input_names o.options) s files) (ap (λ (v : RequestSpec). v.split) r) i, apart, s, subst (λ (v : RequestSpec). IsRunRefusal v files skips e) r h))))
+    inr (inr (inr (a, (files, skips, subst (λ (s : ℕ). IsInput holds (stretch_of o.options) s files) (ap (λ (v : RequestSpec). v.split) r) i, apart, s, subst (λ (v : RequestSpec). IsRunRefusal v files skips e) r h))))
 
 pub works_out : (holds : Stored) (known : Known) (o : SeqOptions) (skips : List RecordName) (files outputs : List (List ℕ)) (bytes line : List ℕ) (request : RequestSpec)
-    → request ≡ request_asked o.options → SpellsNames o.skips.now skips → IsInput holds (input_names o.options) request.split files → AreApart known (input_names o.options) (written_by_seq o)
+    → request ≡ request_asked o.options → SpellsNames o.skips.now skips → IsInput holds (stretch_of o.options) request.split files → AreApart known (input_names o.options) (written_by_seq o)
     → IsSequentialResult o.version request files skips outputs bytes → line ≡ done_line request.parts (length (emitted request.job request.split files skips)) (length skips) → WorksOut holds known o outputs bytes line
 works_out holds known o skips files outputs bytes line request r s i apart h l = record {
   files = files;
   names = skips;
-  input = subst (λ (s : ℕ). IsInput holds (input_names o.options) s files) (ap (λ (v : RequestSpec). v.split) r) i;
+  input = subst (λ (s : ℕ). IsInput holds (stretch_of o.options) s files) (ap (λ (v : RequestSpec). v.split) r) i;
   apart = apart;
   spelled = s;
   result = subst (λ (v : RequestSpec). IsSequentialResult o.version v files skips outputs bytes) r h;

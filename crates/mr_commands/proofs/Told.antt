@@ -1,5 +1,5 @@
 -- What is said of a judgement, what is kept of it, and what stands then.
-use Rattle.std.proofs.Common.{◌≡◌, ℕ, List, [], ◌∷◌, Option, None, Some, Result, Ok, Err, refl, ap, sym, subst, inl, inr, arith}
+use Rattle.std.proofs.Common.{◌≡◌, ℕ, Bool, List, [], ◌∷◌, Option, None, Some, Result, Ok, Err, refl, ap, sym, subst, inl, inr, arith}
 use Rattle.std.specs.Prelude.{IfSome, option_map, string_bytes}
 use Rattle.mr_jobs.specs.JobSpec.{RequestSpec}
 use Rattle.mr_verdict.specs.declared.answers.No.{No}
@@ -14,31 +14,32 @@ use Rattle.mr_args.specs.declared.fault.Fault.{Fault}
 use Rattle.mr_args.specs.declared.request.CheckOptions.{CheckOptions}
 use Rattle.mr_args.specs.Asked.{request_asked}
 use Rattle.mr_commands.specs.Checks.{AnswersCheck, IsYes}
-use Rattle.mr_commands.specs.Inputs.{IsInput, IsStopped}
-use Rattle.mr_commands.specs.Named.{AreClear, input_names, named, read_by_check, verdict_file, written_by_check}
+use Rattle.mr_commands.specs.Inputs.{IsStopped, IsTakenInput}
+use Rattle.mr_commands.specs.Named.{AreClear, named, read_by_check, stretch_of, verdict_file, written_by_check}
 use Rattle.mr_args.specs.Statuses.{ReportsFile}
 use Rattle.mr_commands.specs.Checks.{IsJudged}
 use Rattle.mr_commands.specs.YesLines.{yes_text}
 use Rattle.mr_commands.specs.Judgements.{IsAnswer, IsJudgement, IsResult, IsSaid, Judges, text_kept}
 use Rattle.mr_commands.specs.Verdicts.{IsCheckUnanswered, IsKeptUnder, IsTextRefused, IsVerdictOf, KeepsVerdict, names_kept, verdict_about}
 use Rattle.mr_commands.specs.declared.check_job.Judgement.{Judgement}
-use Rattle.mr_commands.proofs.JudgingInputs.{holding_lengths}
+use Rattle.mr_commands.proofs.JudgingInputs.{as_many}
 use Rattle.mr_commands.proofs.Noted.{true_of}
 use Rattle.mr_commands.proofs.JudgingRefused.{stopped_as}
 
 -- a judgement under the request that was asked for
-pub judges : (holds : Stored) (known : Known) (asked : CheckOptions) (request : RequestSpec) (files : List (List ℕ)) (j : Judgement) → request ≡ request_asked asked.options
-    → IsInput holds (input_names asked.options) request.split files → AreApart known (read_by_check asked) (written_by_check asked) → IfSome (verdict_file asked) (λ name. AreClear asked.options)
-    → (outputs : List (List ℕ)) × (bytes : List ℕ) × IsResult holds asked.options outputs bytes × IsJudgement request asked files outputs bytes j → Judges holds known asked j
-judges holds known asked request files j r i apart clear (outputs, bytes, result, judged) = record {
+pub judges : (holds : Stored) (known : Known) (asked : CheckOptions) (request : RequestSpec) (files : List (List ℕ)) (ends : Bool) (j : Judgement) → request ≡ request_asked asked.options
+    → IsTakenInput holds (stretch_of asked.options) request.split files ends → AreApart known (read_by_check asked) (written_by_check asked) → IfSome (verdict_file asked) (λ name. AreClear asked.options)
+    → (outputs : List (List ℕ)) × (bytes : List ℕ) × IsResult holds asked.options outputs bytes × IsJudgement request asked files ends outputs bytes j → Judges holds known asked j
+judges holds known asked request files ends j r i apart clear (outputs, bytes, result, judged) = record {
   files = files;
+  ends = ends;
   outputs = outputs;
   bytes = bytes;
-  input = subst (λ (v : RequestSpec). IsInput holds (input_names asked.options) v.split files) r i;
+  input = subst (λ (v : RequestSpec). IsTakenInput holds (stretch_of asked.options) v.split files ends) r i;
   result = result;
   apart = apart;
   clear = clear;
-  judgement = subst (λ (v : RequestSpec). IsJudgement v asked files outputs bytes j) r judged;
+  judgement = subst (λ (v : RequestSpec). IsJudgement v asked files ends outputs bytes j) r judged;
 }
 
 if_some : {A B : Type 0} (o : Option (List ℕ)) → (A → B) → IfSome o (λ name. A) → IfSome o (λ name. B)
@@ -111,32 +112,32 @@ module _ (old : Stored) (known : Known) (asked : CheckOptions) (j : Judgement) (
   kept = option_map (λ v. v.items) j.verdict
 
   abbrev about : Yes → Told
-  about y = verdict_about request (input_names asked.options) judged.files judged.outputs y.skips.items y.pairs
+  about y = verdict_about request (stretch_of asked.options) judged.files judged.ends judged.outputs y.skips.items y.pairs
 
   -- the verdict of a yes
   yes_verdict : (y : Yes) → AreClear asked.options → text ≡ yes_text y.pairs y.skips.items → IsYes request judged.files judged.outputs judged.bytes y.skips.items y.pairs
-      → IsVerdictOf asked.options judged.files judged.outputs judged.bytes text (about y)
+      → IsVerdictOf asked.options judged.files judged.ends judged.outputs judged.bytes text (about y)
   yes_verdict y clear said yes_is = record {
     skips = y.skips.items;
     pairs = y.pairs;
     said = said;
     judged = yes_is;
     about = refl;
-    is_true = true_of request (input_names asked.options) judged.files judged.outputs judged.bytes y.skips.items y.pairs (holding_lengths old (input_names asked.options) judged.files judged.input.held) yes_is.certified;
+    is_true = true_of request (stretch_of asked.options) judged.files judged.ends judged.outputs judged.bytes y.skips.items y.pairs (as_many old (stretch_of asked.options) judged.files judged.ends judged.input.taken) yes_is.certified;
     clear = clear;
   }
 
   abbrev says : (status : ℕ) → IsJudged request judged.files judged.outputs judged.bytes text status → AnswersCheck old asked.options text status
-  says status h = record { files = judged.files; outputs = judged.outputs; bytes = judged.bytes; input = judged.input; parts = judged.result.0; certificate = judged.result.1; judged = h }
+  says status h = record { files = judged.files; ends = judged.ends; outputs = judged.outputs; bytes = judged.bytes; input = judged.input; parts = judged.result.0; certificate = judged.result.1; judged = h }
 
   module _ (new : Stored) where
-    keeps_as : (answer : Result Yes No) → IsAnswer request judged.files judged.outputs judged.bytes answer → IsSaid answer j.said → kept ≡ text_kept request asked judged.files judged.outputs answer
+    keeps_as : (answer : Result Yes No) → IsAnswer request judged.files judged.outputs judged.bytes answer → IsSaid answer j.said → kept ≡ text_kept request asked judged.files judged.ends judged.outputs answer
         → IsKeptUnder new (verdict_file asked) kept → ChangesAmong old new (names_kept (verdict_file asked) kept) → KeepsVerdict old new known asked text j.said.status
     keeps_as (Ok y) yes_is (zero_is, said) text_is k among = (
       says j.said.status (inl (zero_is, y.skips.items, y.pairs, said, yes_is)),
       judged.apart,
       (
-        (λ _. stands new (verdict_file asked) kept (IsVerdictOf asked.options judged.files judged.outputs judged.bytes text) (about y) (if_some (verdict_file asked) (λ (clear : AreClear asked.options). yes_verdict y clear said yes_is) judged.clear) text_is k),
+        (λ _. stands new (verdict_file asked) kept (IsVerdictOf asked.options judged.files judged.ends judged.outputs judged.bytes text) (about y) (if_some (verdict_file asked) (λ (clear : AreClear asked.options). yes_verdict y clear said yes_is) judged.clear) text_is k),
         λ one. absurd (not_both j.said.status zero_is one),
       ),
     )
@@ -151,7 +152,7 @@ module _ (old : Stored) (known : Known) (asked : CheckOptions) (j : Judgement) (
     keeps = keeps_as judged.judgement.answer judged.judgement.right judged.judgement.said judged.judgement.kept
 
     unkept_as : (unreadable unwritable : Faulty) (e : FileFault) (f : Fault) (answer : Result Yes No) → IsAnswer request judged.files judged.outputs judged.bytes answer → IsSaid answer j.said
-        → kept ≡ text_kept request asked judged.files judged.outputs answer → IsTextRefused old new unwritable (verdict_file asked) kept e → ReportsFile e f → IsCheckUnanswered old new unreadable unwritable known asked f
+        → kept ≡ text_kept request asked judged.files judged.ends judged.outputs answer → IsTextRefused old new unwritable (verdict_file asked) kept e → ReportsFile e f → IsCheckUnanswered old new unreadable unwritable known asked f
     unkept_as unreadable unwritable e f (Ok y) yes_is (zero_is, said) text_is h tells =
         let s = stopped old new unwritable (verdict_file asked) kept (about y) e f text_is h tells in
         inr (text, s.0, about y, says 0 (inl (refl, y.skips.items, y.pairs, said, yes_is)), judged.apart, s.1, yes_verdict y (subst (λ (o : Option (List ℕ)). IfSome o (λ name. AreClear asked.options)) s.1 judged.clear) said yes_is, s.2)

@@ -12,7 +12,7 @@ use Rattle.mr_args.specs.declared.fault.Fault.TheVariants.{BadSkipList, Run, Out
 use Rattle.mr_args.specs.declared.request.SeqOptions.{SeqOptions}
 use Rattle.mr_args.specs.Asked.{IsRequestRefusal, request_asked}
 use Rattle.mr_commands.specs.Inputs.{IsAsked, IsInput, IsInputRefusal, IsStopped}
-use Rattle.mr_commands.specs.Named.{input_names}
+use Rattle.mr_commands.specs.Named.{input_names, stretch_of}
 use Rattle.mr_commands.specs.Outcomes.{IsSequentialResult, done_line}
 use Rattle.mr_args.specs.SkipList.{SpellsNames}
 
@@ -24,7 +24,7 @@ written_by_seq o = result_names o.options.out.now o.options.parts
 pub record WorksOut (holds : Stored) (known : Known) (o : SeqOptions) (outputs : List (List ℕ)) (bytes line : List ℕ) : Type 0 where
   pub files : List (List ℕ)
   pub names : List RecordName
-  pub input : IsInput holds (input_names o.options) o.options.split files
+  pub input : IsInput holds (stretch_of o.options) o.options.split files
   pub apart : AreApart known (input_names o.options) (written_by_seq o)
   pub spelled : SpellsNames o.skips.now names
   pub result : IsSequentialResult o.version (request_asked o.options) files names outputs bytes
@@ -41,9 +41,9 @@ abbrev pub IsWorkRefusal : Stored → Faulty → Known → SeqOptions → Fault 
 IsWorkRefusal holds unreadable known o fault = IsRequestRefusal o.options fault
     ⊎ (IsAsked o.options × (fault ≡ BadSkipList) × ((names : List RecordName) → ¬ SpellsNames o.skips.now names))
     ⊎ (IsAsked o.options × ((names : List RecordName) × SpellsNames o.skips.now names)
-    × IsInputRefusal holds unreadable known (input_names o.options) (input_names o.options) (written_by_seq o) o.options.split fault)
+    × IsInputRefusal holds unreadable known (stretch_of o.options) (input_names o.options) (written_by_seq o) o.options.split fault)
     ⊎ (IsAsked o.options × ((files : List (List ℕ)) × (names : List RecordName)
-    × IsInput holds (input_names o.options) o.options.split files × AreApart known (input_names o.options) (written_by_seq o) × SpellsNames o.skips.now names
+    × IsInput holds (stretch_of o.options) o.options.split files × AreApart known (input_names o.options) (written_by_seq o) × SpellsNames o.skips.now names
     × IsRunRefusal (request_asked o.options) files names fault))
 
 -- what `seq` did where it says that it is done: behind it the result of the sequential execution over what stood under
@@ -54,7 +54,7 @@ pub record AnswersSeq (old new : Stored) (known : Known) (o : SeqOptions) (text 
   pub names : List RecordName
   pub outputs : List (List ℕ)
   pub bytes : List ℕ
-  pub input : IsInput old (input_names o.options) o.options.split files
+  pub input : IsInput old (stretch_of o.options) o.options.split files
   pub apart : AreApart known (input_names o.options) (written_by_seq o)
   pub spelled : SpellsNames o.skips.now names
   pub result : IsSequentialResult o.version (request_asked o.options) files names outputs bytes

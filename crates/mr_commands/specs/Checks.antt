@@ -1,5 +1,5 @@
 -- What `check` answers, over the files of a store.
-use Rattle.std.specs.Prelude.{◌≡◌, ◌⊎◌, ℕ, ◌∷◌, ◌++◌, ◌<◌, ◌≤◌, IsSome, IfSome, Ok, Err, List, [], length, slice_index_or, Contains, ⊤, string_bytes}
+use Rattle.std.specs.Prelude.{◌≡◌, ◌⊎◌, ℕ, ◌∷◌, ◌++◌, ◌<◌, ◌≤◌, Bool, IsSome, IfSome, Ok, Err, List, [], length, slice_index_or, Contains, ⊤, string_bytes}
 use Rattle.mr_bytes.specs.declared.RecordName.{RecordName}
 use Rattle.mr_jobs.specs.JobSpec.{RequestSpec}
 use Rattle.mr_verdict.specs.declared.answers.No.{No}
@@ -13,8 +13,8 @@ use Rattle.mr_args.specs.declared.fault.Fault.TheVariants.{BadThreads, LineEndIn
 use Rattle.mr_args.specs.declared.request.CheckOptions.{CheckOptions}
 use Rattle.mr_args.specs.declared.request.Options.{Options}
 use Rattle.mr_args.specs.Asked.{IsRequestRefusal, request_asked}
-use Rattle.mr_commands.specs.Inputs.{IsAsked, IsInput, IsInputRefusal}
-use Rattle.mr_commands.specs.Named.{AreClear, input_names, read_by_check, verdict_file, written_by_check}
+use Rattle.mr_commands.specs.Inputs.{IsAsked, IsInput, IsInputRefusal, IsTakenInput}
+use Rattle.mr_commands.specs.Named.{AreClear, input_names, read_by_check, stretch_of, verdict_file, written_by_check}
 use Rattle.mr_commands.specs.NoLines.{no_line}
 use Rattle.mr_commands.specs.YesLines.{yes_text}
 
@@ -41,9 +41,10 @@ IsResultRefusal unreadable names fault = ⊥
 -- nothing else
 pub record AnswersCheck (holds : Stored) (o : Options) (text : List ℕ) (status : ℕ) : Type 0 where
   pub files : List (List ℕ)
+  pub ends : Bool
   pub outputs : List (List ℕ)
   pub bytes : List ℕ
-  pub input : IsInput holds (input_names o) o.split files
+  pub input : IsTakenInput holds (stretch_of o) o.split files ends
   pub parts : Holding holds (part_names o.out.now o.parts) outputs
   pub certificate : holds (name_of_certificate o.out.now) bytes
   pub judged : IsJudged (request_asked o) files outputs bytes text status
@@ -83,6 +84,6 @@ IsCheckRefusal holds unreadable known asked fault =
     let o = asked.options in
     IsRequestRefusal o fault
     ⊎ (IsAsked o × IsOptionRefusal asked fault)
-    ⊎ (AreGood asked × IsInputRefusal holds unreadable known (input_names o) (read_by_check asked) (written_by_check asked) o.split fault)
-    ⊎ (AreGood asked × ((files : List (List ℕ)) × IsInput holds (input_names o) o.split files) × AreApart known (read_by_check asked) (written_by_check asked)
+    ⊎ (AreGood asked × IsInputRefusal holds unreadable known (stretch_of o) (read_by_check asked) (written_by_check asked) o.split fault)
+    ⊎ (AreGood asked × ((files : List (List ℕ)) × IsInput holds (stretch_of o) o.split files) × AreApart known (read_by_check asked) (written_by_check asked)
     × IsResultRefusal unreadable (result_names o.out.now o.parts) fault)

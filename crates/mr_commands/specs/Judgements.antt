@@ -1,5 +1,5 @@
 -- The judgement of a result, from what was read of it to what is said and kept. No public clause stands on it.
-use Rattle.std.specs.Prelude.{◌≡◌, ◌≢◌, ◌⊎◌, ℕ, List, Option, None, IfSome, Result, Ok, Err, option_map, string_bytes}
+use Rattle.std.specs.Prelude.{◌≡◌, ◌≢◌, ◌⊎◌, ℕ, Bool, List, Option, None, IfSome, Result, Ok, Err, option_map, string_bytes}
 use Rattle.mr_input.specs.Files.{contents}
 use Rattle.mr_jobs.specs.JobSpec.{RequestSpec}
 use Rattle.mr_verdict.specs.declared.answers.No.{No}
@@ -15,8 +15,8 @@ use Rattle.mr_args.specs.declared.request.Options.{Options}
 use Rattle.mr_args.specs.declared.fault.Fault.{Fault}
 use Rattle.mr_args.specs.Asked.{request_asked}
 use Rattle.mr_commands.specs.Checks.{IsResultRefusal, IsYes}
-use Rattle.mr_commands.specs.Inputs.{IsInput}
-use Rattle.mr_commands.specs.Named.{AreClear, input_names, read_by_check, verdict_file, written_by_check}
+use Rattle.mr_commands.specs.Inputs.{IsTakenInput}
+use Rattle.mr_commands.specs.Named.{AreClear, read_by_check, stretch_of, verdict_file, written_by_check}
 use Rattle.mr_commands.specs.NoLines.{no_line}
 use Rattle.mr_commands.specs.Verdicts.{verdict_about}
 use Rattle.mr_commands.specs.YesLines.{yes_text}
@@ -36,17 +36,17 @@ IsSaid (Ok y) said = (said.status ≡ 0) × (string_bytes said.text ≡ yes_text
 IsSaid (Err e) said = (e ≢ OutOfMemory) × (said.status ≡ 1) × (string_bytes said.text ≡ no_line e)
 
 -- the text that is kept of an answer on outputs: that of the verdict of a yes, where a name is given for it
-abbrev pub text_kept : RequestSpec → CheckOptions → List (List ℕ) → List (List ℕ) → Result Yes No → Option (List ℕ)
-text_kept request asked files outputs (Ok y) =
-    option_map (λ _. spelling (verdict_about request (input_names asked.options) files outputs y.skips.items y.pairs)) (verdict_file asked)
-text_kept request asked files outputs (Err e) = None
+abbrev pub text_kept : RequestSpec → CheckOptions → List (List ℕ) → Bool → List (List ℕ) → Result Yes No → Option (List ℕ)
+text_kept request asked files ends outputs (Ok y) =
+    option_map (λ _. spelling (verdict_about request (stretch_of asked.options) files ends outputs y.skips.items y.pairs)) (verdict_file asked)
+text_kept request asked files ends outputs (Err e) = None
 
 -- what comes of judging outputs and the bytes of a certificate against files
-pub record IsJudgement (request : RequestSpec) (asked : CheckOptions) (files outputs : List (List ℕ)) (bytes : List ℕ) (j : Judgement) : Type 0 where
+pub record IsJudgement (request : RequestSpec) (asked : CheckOptions) (files : List (List ℕ)) (ends : Bool) (outputs : List (List ℕ)) (bytes : List ℕ) (j : Judgement) : Type 0 where
   pub answer : Result Yes No
   pub right : IsAnswer request files outputs bytes answer
   pub said : IsSaid answer j.said
-  pub kept : option_map (λ v. v.items) j.verdict ≡ text_kept request asked files outputs answer
+  pub kept : option_map (λ v. v.items) j.verdict ≡ text_kept request asked files ends outputs answer
 
 -- these outputs and these bytes of a certificate stand under the names of a result
 abbrev pub IsResult : Stored → Options → List (List ℕ) → List ℕ → Type 0
@@ -74,15 +74,16 @@ AnswersResult holds job answer =
 abbrev pub JudgesResult : Stored → CheckJob → Judgement → Type 0
 JudgesResult holds job j =
     (outputs : List (List ℕ)) × (bytes : List ℕ) × IsResult holds job.asked.now.options outputs bytes
-    × IsJudgement job.request.now job.asked.now job.input.now outputs bytes j
+    × IsJudgement job.request.now job.asked.now job.input.now job.ends outputs bytes j
 
 -- what comes of judging what stands under the names of the result, against what stands under those of the input
 pub record Judges (holds : Stored) (known : Known) (asked : CheckOptions) (j : Judgement) : Type 0 where
   pub files : List (List ℕ)
+  pub ends : Bool
   pub outputs : List (List ℕ)
   pub bytes : List ℕ
-  pub input : IsInput holds (input_names asked.options) asked.options.split files
+  pub input : IsTakenInput holds (stretch_of asked.options) asked.options.split files ends
   pub result : IsResult holds asked.options outputs bytes
   pub apart : AreApart known (read_by_check asked) (written_by_check asked)
   pub clear : IfSome (verdict_file asked) (λ name. AreClear asked.options)
-  pub judgement : IsJudgement (request_asked asked.options) asked files outputs bytes j
+  pub judgement : IsJudgement (request_asked asked.options) asked files ends outputs bytes j

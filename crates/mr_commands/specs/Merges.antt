@@ -27,10 +27,10 @@ list_name o = option_map (λ s. s.now) o.inputs
 -- directory that is named, and the text tells the outputs, the pairs and the left-out records of its verdict
 pub record AnswersMerge (old new : Stored) (known : Known) (o : MergeOptions) (text : List ℕ) : Type 0 where
   pub joined : Told
-  pub merged : IsMerged old new known (verdict_names o) (list_name o) o.out.now joined
+  pub merged : IsMerged old new known (verdict_names o) (list_name o) o.out.now o.partial joined
   pub said : text ≡ merged_line (length joined.outputs) joined.pairs (length joined.left_out)
 
 -- why `merge` doesn't answer, as the merge of these shards tells it, and what stands then
 abbrev pub IsMergeUnanswered : Stored → Stored → Faulty → Faulty → (List ℕ → List ℕ → Type 0) → Known → MergeOptions → Fault → Type 0
 IsMergeUnanswered old new unreadable unwritable alike known o fault =
-    (e : ShardFault) × ReportsShards e fault × IsShardRefusal old new unreadable unwritable alike known (verdict_names o) (list_name o) o.out.now e
+    (e : ShardFault) × ReportsShards e fault × IsShardRefusal old new unreadable unwritable alike known (verdict_names o) (list_name o) o.out.now o.partial e

@@ -3,12 +3,17 @@ use Rattle.std.specs.Prelude.{ℕ, ◌∷◌, ◌++◌, Option, None, Some, List
 use Rattle.std.specs.List.{AllByRecursion}
 use Rattle.mr_bytes.specs.Cut.{Lacks}
 use Rattle.mr_files.specs.Names.{result_names}
+use Rattle.mr_files.specs.Stretches.{Stretch}
 use Rattle.mr_args.specs.declared.request.CheckOptions.{CheckOptions}
 use Rattle.mr_args.specs.declared.request.Options.{Options}
 
 -- the names of the input files, in order
 abbrev pub input_names : Options → List (List ℕ)
 input_names o = map (λ s. s.now) o.files.items
+
+-- what is taken of these files
+abbrev pub stretch_of : Options → Stretch
+stretch_of o = record { names = input_names o; from = o.from; to = o.to }
 
 -- the name that is given, if one is
 abbrev pub named : Option (List ℕ) → List (List ℕ)

@@ -25,7 +25,7 @@ use Rattle.mr_commands.specs.declared.running.RunOutcome.{RunOutcome}
 use Rattle.mr_commands.specs.declared.running.RunOutcome.TheVariants.{Certified, Failed, Uncertified}
 use Rattle.mr_args.specs.Asked.{IsRequestRefusal, request_asked}
 use Rattle.mr_commands.specs.Inputs.{IsAsked, IsInput, IsInputRefusal}
-use Rattle.mr_commands.specs.Named.{input_names, named}
+use Rattle.mr_commands.specs.Named.{input_names, named, stretch_of}
 use Rattle.mr_args.specs.Statuses.{ReportsFile}
 use Rattle.mr_commands.specs.HistoryLines.{fault_name, history_text}
 use Rattle.mr_commands.specs.NoLines.{fault_text}
@@ -88,7 +88,7 @@ EndsOver dir request files script shape version ran = (steady : Bool) × (dir �
 pub record Runs (holds : Stored) (known : Known) (o : RunOptions) (ran : RunOutcome) : Type 0 where
   pub files : List (List ℕ)
   pub script : List Directive
-  pub input : IsInput holds (input_names o.options) o.options.split files
+  pub input : IsInput holds (stretch_of o.options) o.options.split files
   pub apart : AreApart known (read_by_run o) (written_by_run o)
   pub scripted : IsScript holds (script_name o) script
   pub ends : EndsOver (scratch_name o) (request_asked o.options) files script (run_shape (request_asked o.options) files o.workers o.attempts) o.version ran
@@ -200,9 +200,9 @@ IsStartRefusal holds unreadable alike known o fault = IsRequestRefusal o.options
     ⊎ (IsAsked o.options × IsCrewRefusal o fault)
     ⊎ (AreGood o × IsScriptRefusal holds unreadable (script_name o) fault)
     ⊎ (AreGood o × ((script : List Directive) × IsScript holds (script_name o) script)
-    × IsInputRefusal holds unreadable known (input_names o.options) (read_by_run o) (written_by_run o) o.options.split fault)
+    × IsInputRefusal holds unreadable known (stretch_of o.options) (read_by_run o) (written_by_run o) o.options.split fault)
     ⊎ (AreGood o × ((script : List Directive) × IsScript holds (script_name o) script)
-    × ((files : List (List ℕ)) × IsInput holds (input_names o.options) o.options.split files) × AreApart known (read_by_run o) (written_by_run o)
+    × ((files : List (List ℕ)) × IsInput holds (stretch_of o.options) o.options.split files) × AreApart known (read_by_run o) (written_by_run o)
     × (IsScratchClash alike (read_by_run o ++ written_by_run o) (scratch_name o) fault ⊎ IsScratchRefusal (scratch_name o) fault))
 
 -- one of these can't be written, and is told

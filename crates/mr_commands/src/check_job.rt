@@ -12,7 +12,7 @@ ghost use Rattle.std.specs.Prelude.{◌≤◌, ◌^◌};
 ghost use Rattle.mr_input.specs.Files.{split_total};
 
 use crate::accepting::{accept_files, can_reread};
-use crate::judging::{input_notes, judge_as_read};
+use crate::judging::judge_as_read;
 use crate::texts::{CommandOutput, say};
 use mr_args::{CheckOptions, Fault};
 use mr_bytes::{OpenGate, Progress};
@@ -21,7 +21,7 @@ use mr_files::{LimitFault, Store, read_result_within};
 use mr_input::Input;
 use mr_jobs::Request;
 use mr_shard_files::part_notes;
-use mr_shards::{Verdict, verdict_for, write_verdict};
+use mr_shards::{Verdict, ranges_for, spots_for, verdict_for, write_verdict};
 use std::alloc::{AllocError, Global};
 use std::marker::Brand;
 use std::thread::Threads;
@@ -45,6 +45,8 @@ pub(crate) struct CheckJob<'a> {
     pub asked: &'a CheckOptions<'a>,
     pub request: &'a Request,
     pub input: &'a Input,
+    /// Whether the last file of the input ends with it.
+    pub ends: bool,
     pub ghost fits: { split_total request.now.split input.now ≤ 2 ^ 20 },
     pub ghost few: { (1 ≤ asked.now.threads) × (asked.now.threads ≤ 64) },
 }
@@ -67,6 +69,9 @@ impl<'a> CheckJob<'a> {
     ghost use Rattle.std.specs.Prelude.{◌≡◌, ℕ, IfErr, IfOk, IfSome, IsTrue, List, None, Ok};
     ghost use Rattle.std.specs.Prelude.{option_map};
     ghost use Rattle.mr_input.specs.Files.{contents};
+    ghost use Rattle.mr_bytes.specs.Lists.{Rises};
+    ghost use Rattle.mr_bytes.specs.Order.{record_order};
+    ghost use Rattle.mr_shards.specs.Spots.{SkipsExist};
     ghost use Rattle.mr_files.specs.Refusals.{IsOneLonger};
     ghost use Rattle.mr_commands.specs.Judgements.{AnswersResult, IsAnswer, IsHeld, IsJudgement};
     ghost use Rattle.mr_commands.specs.Judgements.{IsUnreadResult};
@@ -124,8 +129,10 @@ impl<'a> CheckJob<'a> {
         outputs: &[Vec<u8>],
         answer: &Result<Yes, No>,
     ) -> Result<Option<Vec<u8>>, AllocError>
+        requires { IfOk answer.now (λ y. (Rises record_order y.skips.items)
+            × SkipsExist self.now.request.now.split self.now.input.now y.skips.items) }
         ensures { IfOk result (λ text. option_map (λ v. v.items) text
-            ≡ text_kept self.now.request.now self.now.asked.now self.now.input.now
+            ≡ text_kept self.now.request.now self.now.asked.now self.now.input.now self.now.ends
             (contents outputs.now) answer.now) }
     {
         let Ok(yes) = answer else {
@@ -134,13 +141,16 @@ impl<'a> CheckJob<'a> {
         let Some(_) = self.asked.verdict else {
             return Ok(None);
         };
-        let inputs = input_notes(alloc, self.asked.options.files.as_slice(), self.input)?;
+        let options = &self.asked.options;
+        let names = options.files.as_slice();
+        let inputs = ranges_for(alloc, names, options.from, self.input, self.ends)?;
         let outputs = part_notes(alloc, outputs)?;
-        let left_out = yes.skips.as_slice();
-        let verdict = verdict_for(alloc, self.request, left_out, yes.pairs)?;
+        let left_out = spots_for(alloc, self.request, self.input, yes.skips.as_slice())?;
+        let verdict = verdict_for(alloc, self.request, yes.pairs)?;
         let verdict = Verdict {
             inputs,
             outputs,
+            left_out,
             ..verdict
         };
         Ok(Some(write_verdict(alloc, &verdict)?))
@@ -154,7 +164,7 @@ impl<'a> CheckJob<'a> {
         watch: &dyn Progress,
     ) -> Result<Judgement, Fault>
         ensures judged { IfOk result (IsJudgement self.now.request.now self.now.asked.now
-            self.now.input.now (contents held.now.outputs.items)
+            self.now.input.now self.now.ends (contents held.now.outputs.items)
             held.now.certificate.items) }
         ensures memory { IfErr result (λ e. e ≡ Fault.OutOfMemory) }
     {
@@ -167,7 +177,7 @@ impl<'a> CheckJob<'a> {
     /// Whether no verdict of this answer is kept.
     fn keeps_nothing(&self, answer: &Result<Yes, No>) -> bool
         ensures { IsTrue result → (outputs : List (List ℕ)) → text_kept self.now.request.now
-            self.now.asked.now self.now.input.now outputs answer.now ≡ None }
+            self.now.asked.now self.now.input.now self.now.ends outputs answer.now ≡ None }
     {
         match answer {
             Ok(_) => self.asked.verdict.is_none(),

@@ -15,7 +15,8 @@ ghost use Rattle.mr_files.specs.Holding.{ChangesAmong};
 ghost use Rattle.mr_files.specs.Identities.{AreApart};
 ghost use Rattle.mr_files.specs.Names.{result_names};
 ghost use Rattle.mr_commands.specs.Inputs.{IsInput, IsInputRefusal};
-ghost use Rattle.mr_commands.specs.Named.{input_names};
+ghost use Rattle.mr_commands.specs.Named.{input_names, stretch_of};
+ghost use Rattle.mr_args.specs.Asked.{RangeStands};
 
 use crate::input::{FileNames, input_of};
 use crate::judging::check;
@@ -78,17 +79,19 @@ fn input_apart<S: Store>(
     request: &Request,
     options: &Options<'_>,
 ) -> Result<Input, Fault>
-    ensures input { IfOk result (λ input. IsInput (S.holds store.now) (input_names options.now) request.now.split input) }
+    requires { RangeStands options.now }
+    ensures input { IfOk result (λ input. IsInput (S.holds store.now) (stretch_of options.now) request.now.split input) }
     ensures apart { OnOk result (AreApart (S.known_as store.now) (input_names options.now)
         (result_names options.now.out.now options.now.parts)) }
     ensures refused { IfErr result (λ e. IsInputRefusal (S.holds store.now)
-        (S.unreadable store.now) (S.known_as store.now) (input_names options.now)
+        (S.unreadable store.now) (S.known_as store.now) (stretch_of options.now)
         (input_names options.now) (result_names options.now.out.now options.now.parts) request.now.split e) }
 {
     let besides = Vec::new(alloc);
     let written = names_of_result(alloc, options.out, options.parts as usize)?;
-    let names = options.files.as_slice();
-    input_of(store, alloc, request, names, FileNames { besides, written })
+    let files = FileNames { besides, written };
+    let (input, _) = input_of(store, alloc, request, options, files)?;
+    Ok(input)
 }
 
 /// Tests the request, the skip list, the files, that none is written, their fit; then works. It

@@ -1,13 +1,17 @@
 //! The input of a request, distinct from what is written.
 ghost use Rattle.std.specs.Prelude.{◌≡◌, ◌++◌, ◌<◌, ◌≤◌, map, IfOk, IfErr, OnOk, option_map};
-ghost use Rattle.std.specs.Prelude.{string_bytes};
+ghost use Rattle.std.specs.Prelude.{length, string_bytes};
+ghost use Rattle.std.specs.Option.{ForSome};
+ghost use Rattle.mr_args.specs.Asked.{RangeStands};
 ghost use Rattle.mr_files.specs.Identities.{AreApart};
-ghost use Rattle.mr_commands.specs.Inputs.{AreRead, IsInput, IsInputRefusal};
-ghost use Rattle.mr_commands.specs.Inputs.{IsUnreadInput};
-ghost use Rattle.mr_commands.specs.Named.{named};
+ghost use Rattle.mr_commands.specs.Inputs.{AreRead, IsInputRefusal, IsTakenInput};
+ghost use Rattle.mr_commands.specs.Inputs.{IsUnreadInput, told_of_unread};
+ghost use Rattle.mr_commands.specs.Named.{input_names, named, stretch_of as stretch_in};
 
-use mr_args::Fault;
-use mr_files::{LimitFault, Store, add_names, first_shared, read_files_within};
+use mr_args::{Fault, Options};
+use mr_files::{
+    RangeFault, Store, Stretch, UnreadStretch, add_names, first_shared, read_stretch_within,
+};
 use mr_input::{Input, InputFault, MAX_BYTES};
 use mr_jobs::Request;
 use std::alloc::{AllocError, Global};
@@ -19,20 +23,47 @@ pub struct FileNames {
     pub written: Vec<String>,
 }
 
-/// Reads the files in order, within the limits of an input. It reads at most one byte past the
-/// limit of bytes, which it reports before a later file; then it tests the number of files.
-fn read_input<S: Store>(store: &S, alloc: Global, names: &[&str]) -> Result<Input, Fault>
-    ensures read { IfOk result (λ input. AreRead (S.holds store.now) (map (λ s. s.now) names.now) input) }
-    ensures refused { IfErr result (λ e. IsUnreadInput (S.holds store.now)
-        (S.unreadable store.now) (map (λ s. s.now) names.now) e) }
+/// What a request takes of its files.
+fn stretch_of<'a>(options: &'a Options<'_>) -> Stretch<'a>
+    ensures { result ≡ stretch_in options.entry.now }
 {
-    let files = match read_files_within(store, alloc, names, MAX_BYTES as u64) {
-        Ok(files) => files,
-        Err(LimitFault::TooLong) => return Err(Fault::Input(InputFault::TooLarge)),
-        Err(LimitFault::File(fault)) => return Err(Fault::from(fault)),
+    Stretch {
+        names: options.files.as_slice(),
+        from: options.from,
+        to: options.to,
+    }
+}
+
+fn fault_of(unread: UnreadStretch) -> Fault
+    ensures { result ≡ told_of_unread unread.file unread.fault }
+{
+    let file = unread.file;
+    match unread.fault {
+        RangeFault::File(fault) => Fault::from(fault),
+        RangeFault::PastEnd => Fault::PastEnd { file },
+        RangeFault::InsideALine { byte } => Fault::InsideALine { file, byte },
+        RangeFault::TooLong => Fault::Input(InputFault::TooLarge),
+    }
+}
+
+/// Reads what is taken of the files, in order, within the limits of an input, and returns whether
+/// the last file ends with it. It reports the limit of bytes before a later file; then it tests the
+/// number of files.
+fn read_input<S: Store>(
+    store: &S,
+    alloc: Global,
+    stretch: &Stretch<'_>,
+) -> Result<(Input, bool), Fault>
+    requires { length stretch.now.names ≡ 1 → ForSome stretch.now.to (λ t. stretch.now.from ≤ t) }
+    ensures read { IfOk result (λ r. AreRead (S.holds store.now) stretch.now r.0 r.1) }
+    ensures refused { IfErr result (λ e. IsUnreadInput (S.holds store.now) (S.unreadable store.now) stretch.now e) }
+{
+    let (files, ends) = match read_stretch_within(store, alloc, stretch, MAX_BYTES as u64) {
+        Ok(taken) => taken,
+        Err(unread) => return Err(fault_of(unread)),
     };
     match Input::of(files) {
-        Ok(input) => Ok(input),
+        Ok(input) => Ok((input, ends)),
         Err(fault) => Err(Fault::Input(fault)),
     }
 }
@@ -47,32 +78,35 @@ pub fn name_given(alloc: Global, name: Option<&str>) -> Result<Vec<String>, Allo
     Ok(names)
 }
 
-/// Reads the files of a request and tests their limits; then that no written file is one of them,
-/// is read besides, or is written twice; then that they fit the request.
+/// Reads what a request takes of its files and tests their limits; then that no written file is one
+/// of them, is read besides, or is written twice; then that it fits the request. It returns whether
+/// the last file ends with what is taken of it.
 pub fn input_of<S: Store>(
     store: &S,
     alloc: Global,
     request: &Request,
-    names: &[&str],
+    options: &Options<'_>,
     files: FileNames,
-) -> Result<Input, Fault>
-    ensures input { IfOk result (λ input. IsInput (S.holds store.now) (map (λ s. s.now) names.now) request.now.split input) }
+) -> Result<(Input, bool), Fault>
+    requires { RangeStands options.now }
+    ensures input { IfOk result (λ r. IsTakenInput (S.holds store.now) (stretch_in options.now)
+        request.now.split r.0 r.1) }
     ensures apart { OnOk result (AreApart (S.known_as store.now)
-        (map string_bytes files.besides.items ++ map (λ s. s.now) names.now)
+        (map string_bytes files.besides.items ++ input_names options.now)
         (map string_bytes files.written.items)) }
     ensures refused { IfErr result (λ e. IsInputRefusal (S.holds store.now)
-        (S.unreadable store.now) (S.known_as store.now) (map (λ s. s.now) names.now)
-        (map string_bytes files.besides.items ++ map (λ s. s.now) names.now)
+        (S.unreadable store.now) (S.known_as store.now) (stretch_in options.now)
+        (map string_bytes files.besides.items ++ input_names options.now)
         (map string_bytes files.written.items) request.now.split e) }
 {
-    let input = read_input(store, alloc, names)?;
+    let (input, ends) = read_input(store, alloc, &stretch_of(options))?;
     let mut read = files.besides;
-    add_names(alloc, &mut read, names)?;
+    add_names(alloc, &mut read, options.files.as_slice())?;
     if let Some(name) = first_shared(store, alloc, read.as_slice(), files.written.as_slice())? {
         return Err(Fault::SameFile(name));
     }
     if !request.fits(&input) {
         return Err(Fault::TooManySplits);
     }
-    Ok(input)
+    Ok((input, ends))
 }

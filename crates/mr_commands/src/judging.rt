@@ -1,16 +1,16 @@
 //! `check`: tests the options, has the result judged, held or while its files are read, and keeps the
 //! verdict of a yes.
-ghost use Rattle.std.specs.Prelude.{◌≡◌, ℕ, [], ◌∷◌, ◌++◌, ◌<◌, IfErr, IfOk, IfSome, MatchOption};
+ghost use Rattle.std.specs.Prelude.{◌≡◌, ℕ, [], ◌<◌, IfErr, IfOk, IfSome, MatchOption};
 ghost use Rattle.std.specs.Prelude.{OnOk, Contains, map, option_map, slice_index_or, length};
 ghost use Rattle.std.specs.Prelude.{string_bytes, List, MatchResult, get_or};
-ghost use Rattle.mr_shards.specs.Truth.{note_for as note_of, notes_for};
 ghost use Rattle.mr_files.specs.Holding.{ChangesAmong};
 ghost use Rattle.mr_files.specs.Identities.{AreApart};
 ghost use Rattle.mr_commands.specs.Checks.{AreGoodThreads, IsCheckRefusal, IsFirstLineEnd};
 ghost use Rattle.mr_commands.specs.Checks.{IsNameRefusal, IsOptionRefusal};
-ghost use Rattle.mr_commands.specs.Inputs.{IsInput, IsInputRefusal};
+ghost use Rattle.mr_args.specs.Asked.{RangeStands};
+ghost use Rattle.mr_commands.specs.Inputs.{IsInputRefusal, IsTakenInput};
 ghost use Rattle.mr_commands.specs.Judgements.{Judges, AnswersResult, files_judged};
-ghost use Rattle.mr_commands.specs.Named.{AreClear, input_names, read_by_check, verdict_file};
+ghost use Rattle.mr_commands.specs.Named.{AreClear, read_by_check, stretch_of, verdict_file};
 ghost use Rattle.mr_commands.specs.Named.{written_by_check};
 ghost use Rattle.mr_commands.specs.Verdicts.{IsCheckUnanswered, IsKeptUnder, IsTextRefused};
 ghost use Rattle.mr_commands.specs.Verdicts.{KeepsVerdict, names_kept};
@@ -29,9 +29,8 @@ use mr_files::{
 };
 use mr_input::Input;
 use mr_jobs::Request;
-use mr_shards::{FileNote, note_for};
 use mr_store::CountedRead;
-use std::alloc::{AllocError, Global};
+use std::alloc::Global;
 use std::thread::Threads;
 
 const MAX_THREADS: u32 = 64;
@@ -66,33 +65,6 @@ fn expect_names(asked: &CheckOptions<'_>) -> Result<(), Fault>
     }
 }
 
-fn add_note(
-    alloc: Global,
-    notes: &mut Vec<FileNote>,
-    name: &str,
-    bytes: &[u8],
-) -> Result<(), AllocError>
-    ensures { OnOk result (notes.new.items ≡ notes.old.items ++ note_of name.now bytes.now ∷ []) }
-{
-    let note = note_for(alloc, name.as_bytes(), bytes)?;
-    notes.push(note).map_err(AllocError::from)
-}
-
-/// The notes of the input's files, under their names.
-pub(crate) fn input_notes(
-    alloc: Global,
-    names: &[&str],
-    input: &Input,
-) -> Result<Vec<FileNote>, AllocError>
-    ensures { IfOk result (λ notes. notes.items ≡ notes_for (map (λ s. s.now) names.now) input.now) }
-{
-    let mut notes = Vec::new(alloc);
-    for file in 0..names.len().min(input.files()) {
-        add_note(alloc, &mut notes, names[file], input.file(file))?;
-    }
-    Ok(notes)
-}
-
 fn expect_options(asked: &CheckOptions<'_>) -> Result<(), Fault>
     ensures threads { OnOk result (AreGoodThreads asked.now.threads) }
     ensures clear { OnOk result (IfSome (verdict_file asked.now) (λ _. AreClear asked.now.options)) }
@@ -104,24 +76,32 @@ fn expect_options(asked: &CheckOptions<'_>) -> Result<(), Fault>
     expect_names(asked)
 }
 
-/// The input, with its files and the result's distinct from the verdict.
+/// The input, with its files and the result's distinct from the verdict, and whether its last file
+/// ends with it.
 fn input_apart<S: Store>(
     store: &S,
     alloc: Global,
     request: &Request,
     asked: &CheckOptions<'_>,
-) -> Result<Input, Fault>
-    ensures input { IfOk result (λ input. IsInput (S.holds store.now) (input_names asked.now.options) request.now.split input) }
+) -> Result<(Input, bool), Fault>
+    requires { RangeStands asked.now.options }
+    ensures input { IfOk result (λ r. IsTakenInput (S.holds store.now)
+        (stretch_of asked.now.options) request.now.split r.0 r.1) }
     ensures apart { OnOk result (AreApart (S.known_as store.now) (read_by_check asked.now) (written_by_check asked.now)) }
     ensures refused { IfErr result (λ e. IsInputRefusal (S.holds store.now)
-        (S.unreadable store.now) (S.known_as store.now) (input_names asked.now.options)
+        (S.unreadable store.now) (S.known_as store.now) (stretch_of asked.now.options)
         (read_by_check asked.now) (written_by_check asked.now) request.now.split e) }
 {
     let options = &asked.options;
     let besides = names_of_result(alloc, options.out, options.parts as usize)?;
     let written = name_given(alloc, asked.verdict)?;
-    let names = options.files.as_slice();
-    input_of(store, alloc, request, names, FileNames { besides, written })
+    input_of(
+        store,
+        alloc,
+        request,
+        options,
+        FileNames { besides, written },
+    )
 }
 
 /// Tests the request, the number of threads and the names for a verdict, then reads the input, then
@@ -138,11 +118,12 @@ fn judge_asked<S: Store, R: Threads + Sync>(
 {
     let request = request_of(alloc, &asked.options)?;
     expect_options(asked)?;
-    let input = input_apart(store, alloc, &request, asked)?;
+    let (input, ends) = input_apart(store, alloc, &request, asked)?;
     let job = CheckJob {
         asked,
         request: &request,
         input: &input,
+        ends,
     };
     job.judge_result(rt, store, alloc, watch)
 }

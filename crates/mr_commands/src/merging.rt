@@ -9,7 +9,7 @@ use crate::texts::CommandOutput;
 use itoa::Buffer;
 use mr_args::{Fault, MergeOptions};
 use mr_files::Store;
-use mr_shard_files::merge_shards;
+use mr_shard_files::{MergePlan, merge_shards};
 use std::alloc::Global;
 use std::thread::Threads;
 
@@ -64,14 +64,13 @@ pub fn merge<S: Store, T: Threads>(
         (S.alike store.old) (S.known_as store.old) asked.now e) }
 {
     let room = String::with_capacity(alloc, LINE_ROOM)?;
-    let joined = merge_shards(
-        rt,
-        store,
-        alloc,
-        asked.verdicts.as_slice(),
-        asked.inputs,
-        asked.out,
-    )?;
+    let plan = MergePlan {
+        names: asked.verdicts.as_slice(),
+        list: asked.inputs,
+        out: asked.out,
+        partial: asked.partial,
+    };
+    let joined = merge_shards(rt, store, alloc, &plan)?;
     let text = merged_line(
         room,
         joined.outputs.len(),

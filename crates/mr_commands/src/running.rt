@@ -12,7 +12,8 @@ ghost use Rattle.mr_commands.specs.Runs.{IsScratchRefusal, StandsIn, scratch_nam
 ghost use Rattle.mr_commands.specs.Runs.{IsStartRefusal, IsRunUnanswered, IsScript};
 ghost use Rattle.mr_commands.specs.Runs.{IsScriptRefusal, Runs, ReportsRan, history_of as history_in};
 ghost use Rattle.mr_commands.specs.Inputs.{IsInput, IsInputRefusal};
-ghost use Rattle.mr_commands.specs.Named.{input_names, named};
+ghost use Rattle.mr_commands.specs.Named.{named, stretch_of};
+ghost use Rattle.mr_args.specs.Asked.{RangeStands};
 ghost use Rattle.mr_commands.specs.HistoryLines.{history_text};
 ghost use Rattle.mr_commands.specs.Runs.{names_left, read_by_run, written_by_run};
 ghost use Rattle.mr_script.specs.Scripts.{SpellsScript};
@@ -139,16 +140,18 @@ fn input_apart<S: Store>(
     request: &Request,
     asked: &RunOptions<'_>,
 ) -> Result<Input, Fault>
-    ensures input { IfOk result (λ input. IsInput (S.holds store.now) (input_names asked.now.options) request.now.split input) }
+    requires { RangeStands asked.now.options }
+    ensures input { IfOk result (λ input. IsInput (S.holds store.now) (stretch_of asked.now.options) request.now.split input) }
     ensures apart { OnOk result (AreApart (S.known_as store.now) (read_by_run asked.now) (written_by_run asked.now)) }
     ensures refused { IfErr result (λ e. IsInputRefusal (S.holds store.now)
-        (S.unreadable store.now) (S.known_as store.now) (input_names asked.now.options)
+        (S.unreadable store.now) (S.known_as store.now) (stretch_of asked.now.options)
         (read_by_run asked.now) (written_by_run asked.now) request.now.split e) }
 {
     let besides = name_given(alloc, asked.script)?;
     let written = names_written(alloc, asked)?;
-    let names = asked.options.files.as_slice();
-    input_of(store, alloc, request, names, FileNames { besides, written })
+    let files = FileNames { besides, written };
+    let (input, _) = input_of(store, alloc, request, &asked.options, files)?;
+    Ok(input)
 }
 
 /// Whether the last part of a name may be one of a region or of their lock.

@@ -7,3 +7,4 @@ pub mod Stopped
 pub mod Readers
 pub mod Known
 pub mod RangeLemmas
+pub mod StretchLemmas

@@ -6,12 +6,11 @@ use Rattle.std.specs.Prelude.{Vec, Option, Some, None}
 use Rattle.std.specs.Global.{Global}
 use Rattle.std.specs.Io.KnownBytes.{Consumes}
 use Rattle.mr_input.specs.Files.{contents, total_size}
-use Rattle.mr_files.specs.Holding.{Agrees, Faulty, Holding, Stored}
+use Rattle.mr_files.specs.Holding.{Agrees, Faulty, Stored}
 use Rattle.mr_files.specs.Names.{name_of_certificate, name_of_part, part_names, result_names}
-use Rattle.mr_files.specs.Refusals.{AreBefore, IsOneUnreadWithin, IsReadRefusalWithin, IsUnreadWithin}
+use Rattle.mr_files.specs.Refusals.{IsOneUnreadWithin, IsUnreadWithin}
 use Rattle.mr_files.specs.declared.reading.LimitFault.{LimitFault}
 use Rattle.mr_files.specs.declared.reading.LimitFault.TheVariants.{File, TooLong}
-use Rattle.mr_files.specs.declared.store.FileFault.TheVariants.{CannotRead, CannotWrite, OutOfMemory}
 use Rattle.mr_files.proofs.Lists.{contents_more, one_part, part_among}
 
 -- what was read begins what stands there
@@ -29,22 +28,6 @@ sizes_more fs f =
 -- one file more
 pub sizes_pushed : (files after : List (Vec ℕ Global)) (v : Vec ℕ Global) → after ≡ files ++ v ∷ [] → total_size (contents after) ≡ total_size (contents files) + length v.items
 sizes_pushed files after v is = ap (λ fs. total_size (contents fs)) is ∙ (ap total_size (contents_more files v) ∙ sizes_more (contents files) v.items)
-
--- a file that is refused behind those that were read, with what is left of the limit
-pub refused_within : (holds : Stored) (unreadable : Faulty) (names before after read : List (List ℕ)) (name : List ℕ) (limit left : ℕ) (e : LimitFault)
-    → names ≡ before ++ name ∷ after → Holding holds before read → total_size read + left ≡ limit
-    → IsUnreadWithin holds unreadable name left e → IsReadRefusalWithin holds unreadable names limit e
-refused_within holds unreadable names before after read name limit left (File (CannotRead told)) is h room u =
-    subst (λ (n : List ℕ). unreadable n × AreBefore holds names limit n) (sym u.1) (u.0, record { before = before; after = after; names_are = is; read = read; held = h; within = omega (arith, room) })
-refused_within holds unreadable names before after read name limit left (File (CannotWrite told)) is h room u = absurd u
-refused_within holds unreadable names before after read name limit left (File OutOfMemory) is h room u = tt
-refused_within holds unreadable names before after read name limit left TooLong is h room u = (
-  name,
-  u.0,
-  record { before = before; after = after; names_are = is; read = read; held = h; within = omega (arith, room) },
-  u.1,
-  omega (arith, room, u.2),
-)
 
 -- ---- a limit for each file
 

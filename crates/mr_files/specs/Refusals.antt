@@ -1,6 +1,5 @@
 -- Which file is told where one can't be read or written.
-use Rattle.std.specs.Prelude.{◌≡◌, ◌<◌, ◌≤◌, ◌+◌, ℕ, List, [], ◌∷◌, ◌++◌, ⊤, length, string_bytes}
-use Rattle.mr_input.specs.Files.{total_size}
+use Rattle.std.specs.Prelude.{◌≡◌, ◌<◌, ℕ, List, [], ◌∷◌, ◌++◌, ⊤, length, string_bytes}
 use Rattle.mr_files.specs.Holding.{Begins, ChangesAmong, Faulty, Holding, Stored}
 use Rattle.mr_store.specs.declared.reading.ReadFault.{ReadFault}
 use Rattle.mr_store.specs.declared.reading.ReadFault.TheVariants.{Device}
@@ -31,26 +30,6 @@ ReportsCause cause OutOfMemory = ⊤
 abbrev pub IsUnreadWithin : Stored → Faulty → List ℕ → ℕ → LimitFault → Type 0
 IsUnreadWithin holds unreadable name limit (File fault) = IsUnread unreadable name fault
 IsUnreadWithin holds unreadable name limit TooLong = (bytes : List ℕ) × holds name bytes × (limit < length bytes)
-
--- the name is one of these, and those before it were read: together they have no more bytes than that
-pub record AreBefore (holds : Stored) (names : List (List ℕ)) (limit : ℕ) (name : List ℕ) : Type 0 where
-  pub before : List (List ℕ)
-  pub after : List (List ℕ)
-  pub names_are : names ≡ before ++ name ∷ after
-  pub read : List (List ℕ)
-  pub held : Holding holds before read
-  pub within : total_size read ≤ limit
-
--- with this file the limit is passed
-abbrev pub IsPassed : Stored → List (List ℕ) → ℕ → Type 0
-IsPassed holds names limit = (name bytes : List ℕ) × (here : AreBefore holds names limit name) × holds name bytes × (limit < total_size here.read + length bytes)
-
--- the first of the names that can't be read, where those before it don't pass the limit; or the file that passes it
-abbrev pub IsReadRefusalWithin : Stored → Faulty → List (List ℕ) → ℕ → LimitFault → Type 0
-IsReadRefusalWithin holds unreadable names limit (File (CannotRead name)) = unreadable (string_bytes name) × AreBefore holds names limit (string_bytes name)
-IsReadRefusalWithin holds unreadable names limit (File (CannotWrite name)) = ⊥
-IsReadRefusalWithin holds unreadable names limit (File OutOfMemory) = ⊤
-IsReadRefusalWithin holds unreadable names limit TooLong = IsPassed holds names limit
 
 -- the name is one of these and can't be read
 abbrev pub IsUnreadAmong : Faulty → List (List ℕ) → List ℕ → Type 0

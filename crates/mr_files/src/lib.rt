@@ -2,7 +2,7 @@
 //!
 //!     Store    MemoryFiles     clauses name the bytes
 //!              DiskFiles       clauses know nothing of bytes: people read `disk.rt` for that
-//!     read     read_file, read_file_within, read_range_within, read_files_within,
+//!     read     read_file, read_file_within, read_range_within, read_stretch_within,
 //!              read_result_within, result_readers
 //!     write    write_file, write_files
 //!
@@ -18,6 +18,7 @@ mod ranges;
 mod reading;
 mod result;
 mod store;
+mod stretches;
 mod writing;
 
 pub use crate::disk::DiskFiles;
@@ -27,9 +28,8 @@ pub use crate::names::{
     part_file, part_name, verdict_name,
 };
 pub use crate::ranges::{RangeFault, read_range_within};
-pub use crate::reading::{
-    LimitFault, read_file, read_file_within, read_files_within, read_result_within,
-};
+pub use crate::reading::{LimitFault, read_file, read_file_within, read_result_within};
 pub use crate::result::{NamedReader, ReadCause, ResultReaders, result_readers};
 pub use crate::store::{FileFault, Store, WriteFault};
+pub use crate::stretches::{Stretch, UnreadStretch, read_stretch_within};
 pub use crate::writing::{write_file, write_files};

@@ -1,18 +1,15 @@
-//! Reads files in order, also with a limit on their bytes.
-//!
-//!     read_files_within      one limit for all: files after the one that passes it stay closed
-//!     read_result_within     a limit for each: tries to open all, and then reads them in order
+//! Reads whole files, also with a limit on the bytes of each.
 //!
 //! A limit reads one byte past itself at most, so a file without an end is refused. A result's
 //! files are all tried first, so a missing one is reported before an unreadable one. A fault names
 //! the first file that can't be read; want of memory is a fault of its own.
 //! Cost: the bytes that are read, all held.
-ghost use Rattle.std.specs.Prelude.{IfOk, IfErr, ◌≡◌, ◌≤◌, ◌∷◌, [], ◌++◌, map, length};
+ghost use Rattle.std.specs.Prelude.{IfOk, IfErr, ◌≡◌, ◌≤◌, ◌∷◌, [], ◌++◌, length};
 ghost use Rattle.mr_files.specs.Names.{name_of_part, result_names, name_of_certificate, part_names};
 ghost use Rattle.mr_files.specs.Refusals.{IsUnread, IsOneUnread, IsFault, IsOneUnreadWithin};
-ghost use Rattle.mr_files.specs.Refusals.{IsReadRefusalWithin, IsUnreadWithin};
+ghost use Rattle.mr_files.specs.Refusals.{IsUnreadWithin};
 ghost use Rattle.std.specs.List.{AllByRecursion};
-ghost use Rattle.mr_input.specs.Files.{contents, total_size};
+ghost use Rattle.mr_input.specs.Files.{contents};
 ghost use Rattle.mr_files.specs.Holding.{Agrees, Holding};
 
 use crate::names::{certificate_name, part_name};
@@ -151,29 +148,6 @@ pub fn read_file_within<S: Store>(
         Ok(mut reader) => read_rest(&mut reader, alloc, name, limit),
         Err(fault) => Err(LimitFault::File(fault_of(alloc, name, fault))),
     }
-}
-
-/// The files' bytes, in order, together at most `limit`. It reads at most one byte past the limit.
-pub fn read_files_within<S: Store>(
-    store: &S,
-    alloc: Global,
-    names: &[&str],
-    limit: u64,
-) -> Result<Vec<Vec<u8>>, LimitFault>
-    ensures bytes { IfOk result
-        (λ v. Holding (S.holds store.now) (map (λ s. s.now) names.now) (contents v.items)) }
-    ensures within { IfOk result (λ v. total_size (contents v.items) ≤ limit) }
-    ensures refused { IfErr result (λ e. IsReadRefusalWithin (S.holds store.now)
-        (S.unreadable store.now) (map (λ s. s.now) names.now) limit e) }
-{
-    let mut files = Vec::new(alloc);
-    let mut left = limit;
-    for name in names {
-        let bytes = read_file_within(store, alloc, name, left)?;
-        left -= bytes.len() as u64;
-        files.push(bytes).map_err(AllocError::from)?;
-    }
-    Ok(files)
 }
 
 fn read_part_within<S: Store>(

@@ -13,6 +13,7 @@ mod kernels;
 mod master;
 mod merging;
 mod plain;
+mod ranges;
 mod regions;
 mod runs;
 mod scripts;
@@ -56,6 +57,7 @@ fn answer(teller: &Teller, word: &str, behind: &[String]) -> io::Result<()> {
         "master" => master::answer(teller),
         "merging" => merging::answer(teller),
         "merged" => merging::answer_bytes(teller),
+        "ranges" => ranges::answer(teller),
         "regions" => regions::answer(teller),
         "scripts" => scripts::answer(teller),
         "stores" => stores::answer(teller),

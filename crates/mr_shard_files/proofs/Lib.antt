@@ -1,4 +1,5 @@
 pub mod ListLemmas
+pub mod InputLemmas
 pub mod ListingLemmas
 pub mod FaultLemmas
 pub mod PartLemmas

@@ -1,5 +1,5 @@
 -- The files of a result, written one after another.
-use Rattle.std.proofs.Common.{◌≡◌, ◌≢◌, ℕ, zero, suc, ◌+◌, ◌<◌, ◌≤◌, ◌^◌, ◌⊎◌, inl, inr, List, [], ◌∷◌, ◌++◌, length, map, take, refl, sym, ◌∙◌, subst, arith}
+use Rattle.std.proofs.Common.{◌≡◌, ◌≢◌, ℕ, zero, suc, ◌+◌, ◌<◌, ◌≤◌, ◌^◌, ◌⊎◌, inl, inr, Bool, List, [], ◌∷◌, ◌++◌, length, take, refl, sym, ◌∙◌, subst, arith}
 use Rattle.std.specs.Prelude.{Option}
 use Rattle.mr_files.specs.Holding.{Begins, ChangesAmong, ChangesOnly, Differs, Faulty, Holding, Stored}
 use Rattle.mr_files.specs.Identities.{Known}
@@ -14,7 +14,8 @@ use Rattle.mr_shard_files.specs.Faults.{IsCutShort, IsPartitionFault, IsPartsFau
 use Rattle.mr_shard_files.specs.Sharing.{AreUnshared}
 use Rattle.mr_shard_files.specs.Made.{ReportsUnwritten}
 use Rattle.mr_shard_files.proofs.MadeLemmas.{unwritten_back}
-use Rattle.mr_shard_files.specs.Merging.{ArePartsWritten, ChangesResult, IsMerged, IsReady, with_outputs}
+use Rattle.mr_shard_files.specs.Merging.{AreHeard, ArePartsWritten, ChangesResult, IsMerged, IsReady, with_outputs}
+use Rattle.mr_shard_files.proofs.PartLemmas.{heard_count}
 use Rattle.mr_shard_files.proofs.TruthLemmas.{merging_ready}
 
 -- the verdict is no part
@@ -107,36 +108,36 @@ cut_short old mid new unreadable first later request names vs dir texts n e coun
     by (inl h) = inl h
     by (inr h) = inr (unwritten_back (later (name_of_part dir n)) (first (name_of_part dir n)) (name_of_part dir n) (name_of_part dir n) e (still (name_of_part dir n)) refl h)
 
-module _ (old mid new : Stored) (known : Known) (names : List (List ℕ)) (list : Option (List ℕ)) (dir : List ℕ) (vs was : List Told) (r : RequestSpec) (m : Told) (notes : List Note) where
+module _ (old mid new : Stored) (known : Known) (names : List (List ℕ)) (list : Option (List ℕ)) (dir : List ℕ) (partial : Bool) (vs : List Told) (r : RequestSpec) (m : Told) (notes : List Note) where
   -- the verdict is written behind all parts
-  pub named : (text : List ℕ) → was ≡ vs → text ≡ spelling (with_outputs m notes) → Holding old names (map spelling vs) → length names ≡ length was → IsReady old known names list dir was r m
-      → ArePartsWritten old mid r names was dir notes → ChangesOnly mid new (name_of_verdict dir) → new (name_of_verdict dir) text → IsMerged old new known names list dir (with_outputs m notes)
-  named text v t held same k w only here = record {
-    verdicts = was;
+  pub named : (text : List ℕ) → text ≡ spelling (with_outputs m notes) → AreHeard old names vs → IsReady old known names list dir partial vs r m
+      → ArePartsWritten old mid r names vs dir notes → ChangesOnly mid new (name_of_verdict dir) → new (name_of_verdict dir) text → IsMerged old new known names list dir partial (with_outputs m notes)
+  named text t held k w only here = record {
+    verdicts = vs;
     outputs = w.texts;
-    held = subst (λ (l : List Told). Holding old names (map spelling l)) (sym v) held;
+    held = held;
     apart = k.apart;
     unshared = subst (λ c. AreUnshared known names list dir c) (sym w.count) k.unshared;
-    merging = merging_ready old mid known names list dir was r m notes same k w;
+    merging = merging_ready old mid known names list dir partial vs r m notes (heard_count old names vs held) k w;
     parts = subst (λ c. Holding new (part_names dir c) w.texts) (sym w.count) (whole_still old mid new dir r.parts w.texts only w.whole);
     verdict = subst (new (name_of_verdict dir)) t here;
     others = subst (λ c. ChangesAmong old new (merged_names dir c)) (sym w.count) (among_again old mid new dir r.parts w.others only);
   }
 
   -- it is not
-  pub unnamed : (unreadable first later : Faulty) (e : ShardFault) → was ≡ vs → Holding old names (map spelling vs) → length names ≡ length was → IsReady old known names list dir was r m
-      → ArePartsWritten old mid r names was dir notes → ChangesOnly mid new (name_of_verdict dir) → Begins mid new (name_of_verdict dir) (spelling (with_outputs m notes)) → ((n : List ℕ) → later n → first n)
-      → ReportsUnwritten (later (name_of_verdict dir)) (name_of_verdict dir) e → IsUnfinished old new unreadable first known names list dir e
-  unnamed unreadable first later e v held same k w only begins still tells = record {
-    verdicts = was;
+  pub unnamed : (unreadable first later : Faulty) (e : ShardFault) → AreHeard old names vs → IsReady old known names list dir partial vs r m
+      → ArePartsWritten old mid r names vs dir notes → ChangesOnly mid new (name_of_verdict dir) → Begins mid new (name_of_verdict dir) (spelling (with_outputs m notes)) → ((n : List ℕ) → later n → first n)
+      → ReportsUnwritten (later (name_of_verdict dir)) (name_of_verdict dir) e → IsUnfinished old new unreadable first known names list dir partial e
+  unnamed unreadable first later e held k w only begins still tells = record {
+    verdicts = vs;
     request = r;
     joined = m;
-    held = subst (λ (l : List Told). Holding old names (map spelling l)) (sym v) held;
+    held = held;
     ready = k;
     why = inr (record {
       joined = with_outputs m notes;
       texts = w.texts;
-      merging = merging_ready old mid known names list dir was r m notes same k w;
+      merging = merging_ready old mid known names list dir partial vs r m notes (heard_count old names vs held) k w;
       whole = subst (λ c. Holding new (part_names dir c) w.texts) (sym w.count) (whole_still old mid new dir r.parts w.texts only w.whole);
       begins = begun_again old mid new dir (spelling (with_outputs m notes)) w.begins begins;
       others = subst (λ c. ChangesAmong old new (merged_names dir c)) (sym w.count) (among_again old mid new dir r.parts w.others only);

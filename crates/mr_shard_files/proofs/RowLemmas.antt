@@ -12,10 +12,11 @@ use Rattle.mr_shards.specs.declared.shift.ShardFiles.{ShardFiles}
 use Rattle.mr_shards.specs.declared.merger.ShardText.{ShardText}
 use Rattle.mr_shards.specs.Portions.{past_shard}
 use Rattle.mr_shards.specs.Refused.{IsRest, IsShardText}
-use Rattle.mr_shards.specs.Joined.{AreOutputsAt, IsMergedAt}
+use Rattle.mr_shards.specs.Joined.{AreOutputsAt, IsMergedAt, inputs_of}
 use Rattle.mr_shards.specs.Verdict.{Told}
 use Rattle.mr_shard_files.specs.Beside.{AreOutputs, IsPartition, StandsBeside, Tells, ReportsCause}
 use Rattle.mr_shard_files.specs.Merging.{AreParts, ArePartsOf}
+use Rattle.mr_shards.proofs.PastLemmas.{files-of-past}
 use Rattle.mr_shard_files.proofs.ListLemmas.{each_more}
 
 -- one more part of each shard
@@ -80,7 +81,7 @@ module _ (holds : Stored) (job : JobSpec) where
   outputs_new n (m ∷ ns) (v ∷ vs) (ps ∷ pss) (t ∷ ts) [] a o = absurd o
   outputs_new n (m ∷ ns) (v ∷ vs) (ps ∷ pss) (t ∷ ts) (q ∷ os) a o =
       let at : nth_file (ps ++ t ∷ []) n ≡ t = ap (λ k. nth_file (ps ++ t ∷ []) k) (sym a.0.count_is) ∙ get_or-append_seam ps t [] [] in
-      (ap (λ (f : ShardFiles). (past_shard f)) o.0, o.1 ∙ sym at, outputs_new n ns vs pss ts os a.1 o.2)
+      (ap (λ (f : ShardFiles). (past_shard f)) o.0 ∙ files-of-past v.inputs (inputs_of vs), o.1 ∙ sym at, outputs_new n ns vs pss ts os a.1 o.2)
 
   outputs_kept : (p n : ℕ) (ns : List (List ℕ)) (vs : List Told) (pss : List (List (List ℕ))) (ts : List (List ℕ)) (os : List ShardText) → p < n → ArePartsOf holds job n ns vs pss
       → Tells n vs ts → AreOutputsAt p vs pss os → AreOutputsAt p vs (grown pss ts) os
@@ -111,11 +112,11 @@ module _ (holds : Stored) (job : JobSpec) where
       by : (p : ℕ) → (p < n) ⊎ (n ≤ p) → p < n + 1 → IsMergedAt job vs (grown r.parts h.parts) p (nth_file texts p)
       by p (inl l) less =
           let m = r.merged p l in
-          (m.0, outputs_kept p n names vs r.parts h.parts m.0 l r.parts_are h.told m.1, m.2, m.3)
+          (m.0, outputs_kept p n names vs r.parts h.parts m.0 l r.parts_are h.told m.1, m.2)
       by p (inr g) less =
           let same : n ≡ p = omega (arith, g, less) in
           subst (λ k. IsMergedAt job vs (grown r.parts h.parts) k (nth_file texts k)) same
-          (h.outputs, outputs_new n names vs r.parts h.parts h.outputs r.parts_are h.outputs_are, h.merged, h.whole)
+          (h.outputs, outputs_new n names vs r.parts h.parts h.outputs r.parts_are h.outputs_are, h.merged)
 
   pub rows : (names : List (List ℕ)) (vs : List Told) (texts : List (List ℕ)) (n : ℕ) → length names ≡ length vs
       → ((p : ℕ) → p < n → IsPartition holds job names vs p (nth_file texts p)) → AreRows names vs texts n

@@ -9,6 +9,7 @@ use Rattle.mr_jobs.specs.JobSpec.{JobSpec}
 use Rattle.mr_shards.specs.declared.shift.ShardFiles.{ShardFiles}
 use Rattle.mr_shards.specs.Pieces.{Reading, output_with, outputs_of}
 use Rattle.mr_shards.specs.Joined.{inputs_of, verdict_at}
+use Rattle.mr_shards.specs.RangeVerdicts.{files_of}
 use Rattle.mr_shards.specs.Verdict.{Told}
 use Rattle.mr_shard_files.specs.declared.fault.ShardFault.{ShardFault}
 use Rattle.mr_shard_files.specs.declared.fault.ShardFault.TheVariants.{CannotRead, OtherPart, OutOfMemory}
@@ -142,16 +143,16 @@ module _ {R : Type 0} (remaining : R → Option (List ℕ)) (can_fail : R → Ty
 
     -- ---- a part that is the one that its verdict tells of
 
-    pub record Whole (n : List ℕ) (v : Told) (x : List ℕ) (q : Part R) : Type 0 where
+    pub record Whole (f : ShardFiles) (n : List ℕ) (v : Told) (x : List ℕ) (q : Part R) : Type 0 where
       pub text : List ℕ
       pub stands : StandsBeside holds p n text
       pub told : ReportsCause p v text
       pub reading : Reading
       pub text_is : reading.output.text.now ≡ text
-      pub may : MayBe (files_told v) x q reading
+      pub may : MayBe f x q reading
 
-    whole : (n : List ℕ) (v : Told) (x : List ℕ) (q m : Part R) → Stream n v x q → IsSettled remaining can_fail p v q m → Whole n v x q
-    whole n v x q m s k =
+    whole : (f : ShardFiles) (n : List ℕ) (v : Told) (x : List ℕ) (q m : Part R) → Stream n v x q → IsSettled remaining can_fail p v q m → Whole f n v x q
+    whole f n v x q m s k =
         let got = k.moves.got in
         let text : List ℕ = x ++ (q.held ++ got) in
         let has = k.moves.read (length_told p v) (x ++ q.held) s.read in
@@ -164,7 +165,7 @@ module _ {R : Type 0} (remaining : R → Option (List ℕ)) (can_fail : R → Ty
           text = text;
           stands = (s.folder, s.is_folder, s.stands got agrees);
           told = subst (ReportsCause p v) same tells;
-          reading = record { output = output_with (files_told v) text; taken = length x };
+          reading = record { output = output_with f text; taken = length x };
           text_is = refl;
           may = record { files_are = refl; taken_is = refl; more = got; text_is = refl; none_more = k.moves.still };
         }
@@ -179,7 +180,7 @@ module _ {R : Type 0} (remaining : R → Option (List ℕ)) (can_fail : R → Ty
       pub stand : Holding (StandsBeside holds p) ns texts
       pub told : Tells p vs texts
       pub outputs : AreOutputs vs texts (outputs_of readings)
-      pub may : AllMayBe (map files_told vs) xs qs readings
+      pub may : AllMayBe (files_told vs) xs qs readings
 
     pub wholes : (ns : List (List ℕ)) (vs : List Told) (xs : List (List ℕ)) (qs ms : List (Part R)) → AreStreams ns vs xs qs → AllAre (IsSettled remaining can_fail p) vs qs ms → Wholes ns vs xs qs
     wholes [] [] [] [] ms h k = record { texts = []; readings = []; stand = tt; told = tt; outputs = tt; may = tt }
@@ -191,7 +192,7 @@ module _ {R : Type 0} (remaining : R → Option (List ℕ)) (can_fail : R → Ty
     wholes (n ∷ ns) (v ∷ vs) (x ∷ xs) [] ms h k = absurd h
     wholes (n ∷ ns) (v ∷ vs) (x ∷ xs) (q ∷ qs) [] h k = absurd k
     wholes (n ∷ ns) (v ∷ vs) (x ∷ xs) (q ∷ qs) (m ∷ ms) h k =
-        let one = whole n v x q m h.0 k.0 in
+        let one = whole (files_of v.inputs (inputs_of vs)) n v x q m h.0 k.0 in
         let rest = wholes ns vs xs qs ms h.1 k.1 in
         record {
           texts = one.text ∷ rest.texts;
@@ -266,7 +267,7 @@ module _ {R : Type 0} (remaining : R → Option (List ℕ)) (can_fail : R → Ty
         (λ s. (one.0, same, other_part (name_at ns i) (verdict_at vs i) (get_or xs i []) (get_or qs i d) s one.1))
     unsettled_at ns vs xs qs e h u = unread_at ns vs xs qs e h u
 
-    pub partition_joined : (job : JobSpec) (ns : List (List ℕ)) (vs : List Told) (qs : List (Part R)) (files : List ShardFiles) (text : List ℕ) → files ≡ map files_told vs
+    pub partition_joined : (job : JobSpec) (ns : List (List ℕ)) (vs : List Told) (qs : List (Part R)) (files : List ShardFiles) (text : List ℕ) → files ≡ files_told vs
         → AreOpened holds unreadable remaining can_fail p ns vs qs → AreJoined remaining can_fail job files p vs qs text → IsPartition holds job ns vs p text
     partition_joined job ns vs qs files text is h j =
         let w = wholes ns vs j.merged.passed j.mid j.new (opened_moved ns vs j.merged.passed qs j.mid h j.merged.moved) j.settled in
@@ -282,7 +283,7 @@ module _ {R : Type 0} (remaining : R → Option (List ℕ)) (can_fail : R → Ty
           whole = m.whole;
         }
 
-    pub partition_refused : (job : JobSpec) (ns : List (List ℕ)) (vs : List Told) (qs : List (Part R)) (files : List ShardFiles) (e : ShardFault) → length (inputs_of vs) < 2 ^ 32 → files ≡ map files_told vs
+    pub partition_refused : (job : JobSpec) (ns : List (List ℕ)) (vs : List Told) (qs : List (Part R)) (files : List ShardFiles) (e : ShardFault) → length (inputs_of vs) < 2 ^ 32 → files ≡ files_told vs
         → AreOpened holds unreadable remaining can_fail p ns vs qs → IsRefused remaining can_fail job files p vs qs e → IsPartitionFault holds unreadable job ns vs p e
     partition_refused job ns vs qs files e few is h (inl none) = inl (inl none)
     partition_refused job ns vs qs files e few is h (inr (inl one)) = inl (inr (unread_at ns vs (nothings qs) qs e (opened_moved ns vs (nothings qs) qs qs h (all_none remaining can_fail qs)) one))

@@ -1,12 +1,14 @@
 -- What the joined verdict is worth, whatever request the verdicts are about.
-use Rattle.std.proofs.Common.{◌≡◌, ℕ, ◌<◌, ◌^◌, List, [], ◌∷◌, length, refl, ap, sym, ◌∙◌, subst, arith, true, false}
+use Rattle.std.proofs.Common.{◌≡◌, ℕ, ◌<◌, ◌^◌, List, [], ◌∷◌, length, refl, ap, sym, ◌∙◌, subst, arith, Bool, true, false}
 use Rattle.std.specs.Prelude.{Option}
 use Rattle.std.specs.List.{AllByRecursion}
 use Rattle.mr_files.specs.Holding.{Stored}
 use Rattle.mr_files.specs.Identities.{Known}
 use Rattle.mr_files.specs.Names.{part_files}
 use Rattle.mr_jobs.specs.JobSpec.{InvertedIndex, JobSpec, LinesWith, RequestSpec, Resources, WordCount, job_flags, job_literal, job_number}
-use Rattle.mr_shards.specs.Joined.{AreMerged, AreOnce, AreTrueOf, IsJoined, all_files}
+use Rattle.mr_shards.specs.Joined.{AreMerged, AreOnce, AreTrueOf, IsJoined}
+use Rattle.mr_shards.specs.RangeNotes.{TileFiles}
+use Rattle.mr_shards.specs.RangeVerdicts.{all_ranges}
 use Rattle.mr_shards.specs.Truth.{AreNotesOf, Asks, IsTrueOf, notes_for}
 use Rattle.mr_shards.specs.Verdict.{Note, Told}
 use Rattle.mr_shards.proofs.FlagLemmas.{one_flag}
@@ -65,10 +67,11 @@ joined_letting : (r : RequestSpec) (skips : ℕ) (vs : List Told) (m : Told) →
 joined_letting r skips vs m j = record {
   asks = j.asks;
   alike = asks_all r skips vs j.alike;
-  counted = j.counted;
+  near = j.near;
   inputs_are = j.inputs_are;
   left_out_is = j.left_out_is;
   pairs_are = j.pairs_are;
+  few = j.few;
 }
 
 first_asks : (r q : RequestSpec) (vs : List Told) (files parts : List (List (List ℕ))) → 0 < length vs → AllByRecursion (λ v. Asks v r) vs → AreTrueOf q vs files parts → letting r q.skips ≡ q
@@ -81,23 +84,24 @@ pub true_of_all : (r : RequestSpec) (vs : List Told) (m : Told) (parts : List (L
     → IsJoined r vs m → AreNotesOf m.outputs outputs → length outputs ≡ r.parts → AreMerged r vs parts outputs → IsTrueOfAll vs parts m outputs
 true_of_all r vs m parts outputs split some j notes count merged q files t =
     let same = first_asks r q vs files parts some j.alike t in
-    subst (λ (x : RequestSpec). IsTrueOf x m (all_files files) outputs) same
+    subst (λ (x : RequestSpec). IsTrueOf x m (all_ranges files) outputs) same
     (joined_is_true (letting r q.skips) vs m files parts outputs split (joined_letting r q.skips vs m j) notes count merged
     (subst (λ (x : RequestSpec). AreTrueOf x vs files parts) (sym same) t))
 
 -- what is merged of the parts of all partitions, with the notes of the outputs
-pub merging : (holds : Stored) (names : List (List ℕ)) (list : Option (List ℕ)) (vs : List Told) (r : RequestSpec) (m : Told) (outputs : List (List ℕ)) (notes : List Note) → 0 < r.split → 0 < length vs → length names ≡ length vs
-    → length outputs ≡ r.parts → ArePartitions holds r.job names vs outputs → IsJoined r vs m → AllByRecursion (λ v. length v.outputs ≡ r.parts) vs → AreOnce m.inputs → length m.inputs < 2 ^ 32 → IsListed holds list m.inputs → notes ≡ notes_for (part_files r.parts) outputs
-    → IsMerging holds names list vs (with_outputs m notes) outputs
-merging holds names list vs r m outputs notes split some names_are count all joined outputs_are once few listed told =
+pub merging : (holds : Stored) (names : List (List ℕ)) (list : Option (List ℕ)) (partial : Bool) (vs : List Told) (r : RequestSpec) (m : Told) (outputs : List (List ℕ)) (notes : List Note) → 0 < r.split → 0 < length vs → length names ≡ length vs
+    → length outputs ≡ r.parts → ArePartitions holds r.job names vs outputs → IsJoined r vs m → AllByRecursion (λ v. length v.outputs ≡ r.parts) vs → TileFiles partial m.inputs → AreOnce m.inputs → length m.inputs < 2 ^ 32 → IsListed holds list m.inputs → notes ≡ notes_for (part_files r.parts) outputs
+    → IsMerging holds names list partial vs (with_outputs m notes) outputs
+merging holds names list partial vs r m outputs notes split some names_are count all joined outputs_are tiles once few listed told =
     let row = rows holds r.job names vs outputs r.parts names_are (λ p less. all p (omega (arith, less, count))) in
     let whole : IsJoined r vs (with_outputs m notes) = record {
       asks = joined.asks;
       alike = joined.alike;
-      counted = joined.counted;
+      near = joined.near;
       inputs_are = joined.inputs_are;
       left_out_is = joined.left_out_is;
       pairs_are = joined.pairs_are;
+      few = joined.few;
     } in
     let noted : AreNotesOf notes outputs = subst (λ (l : List Note). AreNotesOf l outputs) (sym told) (notes_of (part_files r.parts) outputs (files_count r.parts ∙ sym count)) in
     record {
@@ -106,6 +110,7 @@ merging holds names list vs r m outputs notes split some names_are count all joi
       parts_are = row.parts_are;
       joined = whole;
       told = outputs_are;
+      tiles = tiles;
       once = once;
       few = few;
       listed = listed;
@@ -116,7 +121,7 @@ merging holds names list vs r m outputs notes split some names_are count all joi
     }
 
 -- what is merged of verdicts that can be, where the parts of all partitions were written
-pub merging_ready : (old new : Stored) (known : Known) (names : List (List ℕ)) (list : Option (List ℕ)) (dir : List ℕ) (vs : List Told) (r : RequestSpec) (m : Told) (notes : List Note) → length names ≡ length vs
-    → IsReady old known names list dir vs r m → (w : ArePartsWritten old new r names vs dir notes) → IsMerging old names list vs (with_outputs m notes) w.texts
-merging_ready old new known names list dir vs r m notes same k w =
-    merging old names list vs r m w.texts notes k.split k.some same w.count w.merged k.all.joined k.all.told k.all.once k.all.few k.listed w.notes_are
+pub merging_ready : (old new : Stored) (known : Known) (names : List (List ℕ)) (list : Option (List ℕ)) (dir : List ℕ) (partial : Bool) (vs : List Told) (r : RequestSpec) (m : Told) (notes : List Note) → length names ≡ length vs
+    → IsReady old known names list dir partial vs r m → (w : ArePartsWritten old new r names vs dir notes) → IsMerging old names list partial vs (with_outputs m notes) w.texts
+merging_ready old new known names list dir partial vs r m notes same k w =
+    merging old names list partial vs r m w.texts notes k.split k.some same w.count w.merged k.all.joined k.all.told k.all.tiles k.all.once k.all.few k.listed w.notes_are

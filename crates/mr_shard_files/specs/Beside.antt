@@ -1,5 +1,5 @@
 -- What stands beside the verdicts of shards.
-use Rattle.std.specs.Prelude.{◌≡◌, ℕ, ◌<◌, List, [], ◌∷◌, None, length, slice_index_or}
+use Rattle.std.specs.Prelude.{◌≡◌, ℕ, ◌<◌, List, [], ◌∷◌, length, slice_index_or}
 use Rattle.std.specs.List.{AllByRecursion}
 use Rattle.mr_input.specs.Files.{nth_file}
 use Rattle.mr_files.specs.Folders.{IsFolderOf}
@@ -12,6 +12,8 @@ use Rattle.mr_shards.specs.Merged.{texts}
 use Rattle.mr_shards.specs.Portions.{merged_portions}
 use Rattle.mr_shards.specs.Outputs.{IsOutputOfAll, parts_in}
 use Rattle.mr_shards.specs.Refused.{IsShardText}
+use Rattle.mr_shards.specs.Joined.{inputs_of}
+use Rattle.mr_shards.specs.RangeVerdicts.{files_of}
 use Rattle.mr_shards.specs.Truth.{IsNoteOf}
 use Rattle.mr_shards.specs.Verdict.{Note, Told}
 
@@ -32,18 +34,15 @@ Tells p [] [] = Unit {0}
 Tells p (v ∷ vs) (t ∷ ts) = ReportsCause p v t × Tells p vs ts
 Tells p _ _ = ⊥
 
--- so many files, none of which goes on
-abbrev pub whole_files : ℕ → ShardFiles
-whole_files count = record { count = count; cut = None }
-
--- the files of the shard that the verdict is about
-abbrev pub files_told : Told → ShardFiles
-files_told v = whole_files (length v.inputs)
+-- the files of the shard that each verdict is about; the shards behind may go on with the last one
+abbrev pub files_told : List Told → List ShardFiles
+files_told [] = []
+files_told (v ∷ vs) = files_of v.inputs (inputs_of vs) ∷ files_told vs
 
 -- the texts, each with its shard's files
 abbrev pub AreOutputs : List Told → List (List ℕ) → List ShardText → Type 0
 AreOutputs [] [] [] = Unit {0}
-AreOutputs (v ∷ vs) (t ∷ ts) (o ∷ os) = (o.files ≡ files_told v) × (o.text.now ≡ t) × AreOutputs vs ts os
+AreOutputs (v ∷ vs) (t ∷ ts) (o ∷ os) = (o.files ≡ files_of v.inputs (inputs_of vs)) × (o.text.now ≡ t) × AreOutputs vs ts os
 AreOutputs _ _ _ = ⊥
 
 -- the text is merged of what stands beside the verdicts for that partition, each as its verdict tells, and each of lines of

@@ -1,6 +1,6 @@
 -- Why shards are not merged, stage by stage: what is told of one verdict, one part or one partition is told of all by its
 -- place.
-use Rattle.std.specs.Prelude.{◌≡◌, ◌≢◌, ◌⊎◌, ℕ, ◌+◌, ◌<◌, ◌≤◌, ◌^◌, ⊤, List, [], ◌∷◌, Option, None, Some, length, map, slice_index_or, string_bytes, take}
+use Rattle.std.specs.Prelude.{◌≡◌, ◌≢◌, ◌⊎◌, ℕ, ◌+◌, ◌<◌, ◌≤◌, ◌^◌, Bool, ⊤, List, [], ◌∷◌, Option, None, Some, length, slice_index_or, string_bytes, take}
 use Rattle.mr_files.specs.Folders.{IsFolderOf}
 use Rattle.mr_files.specs.Holding.{Begins, ChangesAmong, Faulty, Holding, Stored}
 use Rattle.mr_files.specs.Identities.{Known}
@@ -10,18 +10,23 @@ use Rattle.mr_shards.specs.declared.merger.MergeFault.TheVariants as merge
 use Rattle.mr_shards.specs.declared.merger.ShardText.{ShardText}
 use Rattle.mr_shards.specs.Refused.{Blames}
 use Rattle.mr_shards.specs.declared.joining.JoinFault.TheVariants as join
-use Rattle.mr_shards.specs.Joined.{IsJoinFault, IsJoined, IsRepeated, inputs_of, verdict_at}
-use Rattle.mr_shards.specs.Reading.{Fits}
+use Rattle.mr_shards.specs.Joined.{AreOnce, IsJoinFault, IsJoined, IsRepeated, inputs_of, verdict_at}
+use Rattle.mr_shards.specs.Gaps.{BeginsWell, IsFirstGap, Stands}
+use Rattle.mr_shards.specs.declared.ranges.Gap.TheVariants as gap
+use Rattle.mr_shards.specs.declared.verdict.VerdictFault.{VerdictFault}
+use Rattle.mr_shards.specs.declared.verdict.VerdictFault.TheVariants as reading
+use Rattle.mr_shards.specs.RangeNotes.{RangeNote}
+use Rattle.mr_shards.specs.Reading.{IsRefused}
 use Rattle.mr_shards.specs.Truth.{Asks, AsksNone}
-use Rattle.mr_shards.specs.Verdict.{Note, Told, spelling}
+use Rattle.mr_shards.specs.Verdict.{Told, spelling}
 use Rattle.mr_shard_files.specs.declared.fault.ShardFault.{ShardFault}
-use Rattle.mr_shard_files.specs.declared.fault.ShardFault.TheVariants.{BadLine, BadVerdict, CannotRead, LongList, LongVerdict, NoRequest, NoShards, NoSuchFile, OtherInputs, OtherOutputs, OtherPart, OtherRequest, OutOfMemory, PlaceTooFar, RepeatedInput, TooManyFiles, TooManyPairs, TooManySplits, TotalTooLarge}
+use Rattle.mr_shard_files.specs.declared.fault.ShardFault.TheVariants.{BadLine, BadVerdict, CannotRead, FarPlace, LongList, LongVerdict, NoBeginning, NoEnd, NoRequest, NoShards, NoSuchFile, OldVerdict, OtherInputs, OtherOutputs, OtherPart, OtherRequest, OutOfMemory, PlaceTooFar, RepeatedInput, TooManyFiles, TooManyPairs, TotalTooLarge}
 use Rattle.mr_shard_files.specs.Apart.{AreApart, IsSameFolder}
 use Rattle.mr_shard_files.specs.Beside.{AreOutputs, ArePartitions, StandsBeside, Tells, ReportsCause}
 use Rattle.mr_shard_files.specs.Listing.{DifferIn, IsListed, listing}
 use Rattle.mr_shard_files.specs.Made.{ReportsUnwritten}
 use Rattle.mr_shard_files.specs.Sharing.{IsShared}
-use Rattle.mr_shard_files.specs.Merging.{AreCounted, IsJoinedOnce, IsMerging, IsReady}
+use Rattle.mr_shard_files.specs.Merging.{AreCounted, AreHeard, IsJoinedOnce, IsMerging, IsReady}
 
 abbrev pub name_at : List (List ℕ) → ℕ → List ℕ
 name_at names i = slice_index_or names i []
@@ -32,15 +37,16 @@ name_at names i = slice_index_or names i []
 abbrev pub IsLong : Stored → List ℕ → Type 0
 IsLong holds name = (text : List ℕ) × holds name text × (2 ^ 30 < length text)
 
--- what stands under the name is the text of no verdict
-abbrev pub IsNoVerdict : Stored → List ℕ → Type 0
-IsNoVerdict holds name = (text : List ℕ) × holds name text × ((v : Told) → Fits v → text ≡ spelling v → ⊥)
+-- what stands under the name is refused so: it is the text of no verdict, or an old one that names left-out records
+abbrev pub IsNoVerdict : Stored → List ℕ → VerdictFault → Type 0
+IsNoVerdict holds name fault = (text : List ℕ) × holds name text × IsRefused text fault
 
 -- the verdict of that shard, under that name, is not read
 abbrev pub IsUnheard : Stored → Faulty → ℕ → List ℕ → ShardFault → Type 0
 IsUnheard holds unreadable at name (CannotRead told) = unreadable name × (string_bytes told ≡ name)
 IsUnheard holds unreadable at name (LongVerdict shard) = (shard ≡ at) × IsLong holds name
-IsUnheard holds unreadable at name (BadVerdict shard line) = (shard ≡ at) × IsNoVerdict holds name
+IsUnheard holds unreadable at name (BadVerdict shard line) = (shard ≡ at) × IsNoVerdict holds name (reading.BadLine line)
+IsUnheard holds unreadable at name (OldVerdict shard) = (shard ≡ at) × IsNoVerdict holds name reading.OldVerdict
 IsUnheard holds unreadable at name OutOfMemory = ⊤
 IsUnheard holds unreadable at name fault = ⊥
 
@@ -49,7 +55,7 @@ pub record IsUnheardAt (holds : Stored) (unreadable : Faulty) (names : List (Lis
   pub at : ℕ
   pub before : List Told
   pub within : at < length names
-  pub held : Holding holds (take at names) (map spelling before)
+  pub held : AreHeard holds (take at names) before
   pub why : IsUnheard holds unreadable at (name_at names at) fault
 
 -- the verdicts are not all read
@@ -133,13 +139,13 @@ IsListUnread holds unreadable name OutOfMemory = ⊤
 IsListUnread holds unreadable name fault = ⊥
 
 -- the text under that name is not that of these inputs: the first line is told in which it differs
-abbrev pub IsOtherList : Stored → List ℕ → List Note → ShardFault → Type 0
+abbrev pub IsOtherList : Stored → List ℕ → List RangeNote → ShardFault → Type 0
 IsOtherList holds name inputs (OtherInputs line) = (text : List ℕ) × holds name text × DifferIn text (listing inputs) line
 IsOtherList holds name inputs OutOfMemory = ⊤
 IsOtherList holds name inputs fault = ⊥
 
 -- a list is named, and is not read or is another
-abbrev pub IsListFault : Stored → Faulty → Option (List ℕ) → List Note → ShardFault → Type 0
+abbrev pub IsListFault : Stored → Faulty → Option (List ℕ) → List RangeNote → ShardFault → Type 0
 IsListFault holds unreadable None inputs fault = ⊥
 IsListFault holds unreadable (Some name) inputs fault = IsListUnread holds unreadable name fault ⊎ IsOtherList holds name inputs fault
 
@@ -158,41 +164,49 @@ IsMiscounted vs parts (OtherOutputs shard) =
     (shard < length vs) × AreCounted (take shard vs) parts × (length (verdict_at vs shard).outputs ≢ parts)
 IsMiscounted vs parts fault = ⊥
 
--- the inputs can't be numbered; or they can, and one has the name of another
-abbrev pub IsInputsFault : List Note → ShardFault → Type 0
-IsInputsFault inputs TooManyFiles = 2 ^ 32 ≤ length inputs
-IsInputsFault inputs (RepeatedInput input) = (length inputs < 2 ^ 32) × IsRepeated inputs input
-IsInputsFault inputs OutOfMemory = ⊤
-IsInputsFault inputs fault = ⊥
+-- an input has no beginning, or begins a file again, or has no end; those before have no such fault, nor has this one a fault
+-- that comes before its own
+abbrev pub IsInputFault : Bool → List RangeNote → ShardFault → Type 0
+IsInputFault partial inputs (NoBeginning input) = IsFirstGap partial inputs (gap.NoBeginning input) × AreOnce (take input inputs)
+IsInputFault partial inputs (RepeatedInput input) =
+    IsRepeated inputs input × ((k : ℕ) → k < input → Stands partial inputs k) × BeginsWell partial inputs (gap.NoEnd input)
+IsInputFault partial inputs (NoEnd input) = IsFirstGap partial inputs (gap.NoEnd input) × AreOnce (take (input + 1) inputs)
+IsInputFault partial inputs fault = ⊥
+
+-- the inputs can't be numbered; or they can, and one has a fault
+abbrev pub IsInputsFault : Bool → List RangeNote → ShardFault → Type 0
+IsInputsFault partial inputs TooManyFiles = 2 ^ 32 ≤ length inputs
+IsInputsFault partial inputs OutOfMemory = ⊤
+IsInputsFault partial inputs fault = (length inputs < 2 ^ 32) × IsInputFault partial inputs fault
 
 -- the verdicts are not joined
 abbrev pub IsUnjoined : RequestSpec → List Told → ShardFault → Type 0
 IsUnjoined request vs (OtherRequest shard) = IsJoinFault request vs (join.OtherRequest shard)
-IsUnjoined request vs (TooManySplits shard) = IsJoinFault request vs (join.TooManySplits shard)
 IsUnjoined request vs TooManyPairs = IsJoinFault request vs join.TooManyPairs
+IsUnjoined request vs (FarPlace shard) = IsJoinFault request vs (join.PlaceTooFar shard)
 IsUnjoined request vs OutOfMemory = ⊤
 IsUnjoined request vs fault = ⊥
 
--- they are not joined; or they are, and tell of other outputs; or not of others, and of inputs that can't be told apart
-abbrev pub IsJoinedFault : RequestSpec → List Told → ShardFault → Type 0
-IsJoinedFault request vs fault = IsUnjoined request vs fault
+-- they are not joined; or they are, and tell of other outputs; or not of others, and of inputs that don't tile files
+abbrev pub IsJoinedFault : Bool → RequestSpec → List Told → ShardFault → Type 0
+IsJoinedFault partial request vs fault = IsUnjoined request vs fault
     ⊎ ((m : Told) × IsJoined request vs m
-    × (IsMiscounted vs request.parts fault ⊎ (AreCounted vs request.parts × IsInputsFault (inputs_of vs) fault)))
+    × (IsMiscounted vs request.parts fault ⊎ (AreCounted vs request.parts × IsInputsFault partial (inputs_of vs) fault)))
 
 -- other inputs were meant; or just these, and the result would stand in a shard's folder; or in none, and over a file that is read
-abbrev pub IsUnmeant : Stored → Faulty → (List ℕ → List ℕ → Type 0) → Known → List (List ℕ) → Option (List ℕ) → List ℕ → ℕ → List Note → ShardFault → Type 0
+abbrev pub IsUnmeant : Stored → Faulty → (List ℕ → List ℕ → Type 0) → Known → List (List ℕ) → Option (List ℕ) → List ℕ → ℕ → List RangeNote → ShardFault → Type 0
 IsUnmeant holds unreadable alike known names list dir parts inputs fault = IsListFault holds unreadable list inputs fault
     ⊎ (IsListed holds list inputs × (IsSameFolder alike names dir fault ⊎ (AreApart names dir × IsShared known names list dir parts fault)))
 
 -- they are not joined; or they are, and were not meant so
-abbrev pub IsRequestFault : Stored → Faulty → (List ℕ → List ℕ → Type 0) → Known → RequestSpec → List (List ℕ) → Option (List ℕ) → List ℕ → List Told → ShardFault → Type 0
-IsRequestFault holds unreadable alike known request names list dir vs fault = IsJoinedFault request vs fault
-    ⊎ ((m : Told) × IsJoinedOnce request vs m × IsUnmeant holds unreadable alike known names list dir request.parts m.inputs fault)
+abbrev pub IsRequestFault : Stored → Faulty → (List ℕ → List ℕ → Type 0) → Known → RequestSpec → List (List ℕ) → Option (List ℕ) → List ℕ → Bool → List Told → ShardFault → Type 0
+IsRequestFault holds unreadable alike known request names list dir partial vs fault = IsJoinedFault partial request vs fault
+    ⊎ ((m : Told) × IsJoinedOnce partial request vs m × IsUnmeant holds unreadable alike known names list dir request.parts m.inputs fault)
 
 -- nothing is merged: there is no request, or under that of the first verdict there is no merge
-abbrev pub IsMergingFault : Stored → Faulty → (List ℕ → List ℕ → Type 0) → Known → List (List ℕ) → Option (List ℕ) → List ℕ → List Told → ShardFault → Type 0
-IsMergingFault holds unreadable alike known names list dir vs fault = (fault ≡ OutOfMemory) ⊎ (IsFirstFault vs fault
-    ⊎ ((request : RequestSpec) × Asks (verdict_at vs 0) request × IsRequestFault holds unreadable alike known request names list dir vs fault))
+abbrev pub IsMergingFault : Stored → Faulty → (List ℕ → List ℕ → Type 0) → Known → List (List ℕ) → Option (List ℕ) → List ℕ → Bool → List Told → ShardFault → Type 0
+IsMergingFault holds unreadable alike known names list dir partial vs fault = (fault ≡ OutOfMemory) ⊎ (IsFirstFault vs fault
+    ⊎ ((request : RequestSpec) × Asks (verdict_at vs 0) request × IsRequestFault holds unreadable alike known request names list dir partial vs fault))
 
 -- ---- the result
 
@@ -224,29 +238,29 @@ IsPartsFault old new unreadable unwritable request names vs dir fault = IsUnbegu
 
 -- all is merged and the parts stand whole, and the verdict is not written: there stands what stood there, or a beginning of
 -- its text
-pub record IsUnnamed (old new : Stored) (unwritable : Faulty) (names : List (List ℕ)) (list : Option (List ℕ)) (vs : List Told) (dir : List ℕ) (fault : ShardFault) : Type 0 where
+pub record IsUnnamed (old new : Stored) (unwritable : Faulty) (names : List (List ℕ)) (list : Option (List ℕ)) (partial : Bool) (vs : List Told) (dir : List ℕ) (fault : ShardFault) : Type 0 where
   pub joined : Told
   pub texts : List (List ℕ)
-  pub merging : IsMerging old names list vs joined texts
+  pub merging : IsMerging old names list partial vs joined texts
   pub whole : Holding new (part_names dir (length texts)) texts
   pub begins : Begins old new (name_of_verdict dir) (spelling joined)
   pub others : ChangesAmong old new (merged_names dir (length texts))
   pub why : ReportsUnwritten (unwritable (name_of_verdict dir)) (name_of_verdict dir) fault
 
 -- nothing changed, as the verdicts are not all read, or are not of shards that can be merged
-abbrev pub IsUnmerged : Stored → Stored → Faulty → (List ℕ → List ℕ → Type 0) → Known → List (List ℕ) → Option (List ℕ) → List ℕ → ShardFault → Type 0
-IsUnmerged old new unreadable alike known names list dir fault = ChangesAmong old new [] × (IsUngathered old unreadable names fault
-    ⊎ ((vs : List Told) × Holding old names (map spelling vs) × IsMergingFault old unreadable alike known names list dir vs fault))
+abbrev pub IsUnmerged : Stored → Stored → Faulty → (List ℕ → List ℕ → Type 0) → Known → List (List ℕ) → Option (List ℕ) → List ℕ → Bool → ShardFault → Type 0
+IsUnmerged old new unreadable alike known names list dir partial fault = ChangesAmong old new [] × (IsUngathered old unreadable names fault
+    ⊎ ((vs : List Told) × AreHeard old names vs × IsMergingFault old unreadable alike known names list dir partial vs fault))
 
 -- the verdicts can be merged to that folder, and the result is not all written
-pub record IsUnfinished (old new : Stored) (unreadable unwritable : Faulty) (known : Known) (names : List (List ℕ)) (list : Option (List ℕ)) (dir : List ℕ) (fault : ShardFault) : Type 0 where
+pub record IsUnfinished (old new : Stored) (unreadable unwritable : Faulty) (known : Known) (names : List (List ℕ)) (list : Option (List ℕ)) (dir : List ℕ) (partial : Bool) (fault : ShardFault) : Type 0 where
   pub verdicts : List Told
   pub request : RequestSpec
   pub joined : Told
-  pub held : Holding old names (map spelling verdicts)
-  pub ready : IsReady old known names list dir verdicts request joined
-  pub why : IsPartsFault old new unreadable unwritable request names verdicts dir fault ⊎ IsUnnamed old new unwritable names list verdicts dir fault
+  pub held : AreHeard old names verdicts
+  pub ready : IsReady old known names list dir partial verdicts request joined
+  pub why : IsPartsFault old new unreadable unwritable request names verdicts dir fault ⊎ IsUnnamed old new unwritable names list partial verdicts dir fault
 
-abbrev pub IsShardRefusal : Stored → Stored → Faulty → Faulty → (List ℕ → List ℕ → Type 0) → Known → List (List ℕ) → Option (List ℕ) → List ℕ → ShardFault → Type 0
-IsShardRefusal old new unreadable unwritable alike known names list dir fault =
-    IsUnmerged old new unreadable alike known names list dir fault ⊎ IsUnfinished old new unreadable unwritable known names list dir fault
+abbrev pub IsShardRefusal : Stored → Stored → Faulty → Faulty → (List ℕ → List ℕ → Type 0) → Known → List (List ℕ) → Option (List ℕ) → List ℕ → Bool → ShardFault → Type 0
+IsShardRefusal old new unreadable unwritable alike known names list dir partial fault =
+    IsUnmerged old new unreadable alike known names list dir partial fault ⊎ IsUnfinished old new unreadable unwritable known names list dir partial fault

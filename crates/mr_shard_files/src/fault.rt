@@ -24,6 +24,11 @@ pub enum ShardFault {
     LongVerdict {
         shard: usize,
     },
+    /// The text is a verdict of version 1 that names left-out records by their splits.
+    #[error("OldVerdict shard {shard}")]
+    OldVerdict {
+        shard: usize,
+    },
     /// The first verdict is about no request, or about one of an index, which can't be merged.
     #[error("NoRequest")]
     NoRequest,
@@ -32,17 +37,29 @@ pub enum ShardFault {
     OtherRequest {
         shard: usize,
     },
-    /// The split of a left-out record would not fit in 32 bits, or the count of splits in 64.
-    #[error("TooManySplits shard {shard}")]
-    TooManySplits {
-        shard: usize,
-    },
     /// The sum of the pairs doesn't fit in 64 bits.
     #[error("TooManyPairs")]
     TooManyPairs,
-    /// An earlier input has the same name. Inputs are numbered through all shards.
+    /// A range of the verdict ends past 2^64. Or the place of a left-out record, moved, doesn't
+    /// fit: its file's number in 32 bits, its offset in 64.
+    #[error("PlaceTooFar shard {shard}")]
+    FarPlace {
+        shard: usize,
+    },
+    /// The input begins inside its file, and doesn't go on with the one before. Inputs are numbered
+    /// through all shards.
+    #[error("NoBeginning input {input}")]
+    NoBeginning {
+        input: usize,
+    },
+    /// The input begins another file of an earlier one's name.
     #[error("RepeatedInput input {input}")]
     RepeatedInput {
+        input: usize,
+    },
+    /// The input ends before its file does, and the next one doesn't go on with it.
+    #[error("NoEnd input {input}")]
+    NoEnd {
         input: usize,
     },
     /// The list of inputs is longer than 1 GiB.
@@ -71,7 +88,7 @@ pub enum ShardFault {
     TotalTooLarge {
         partition: usize,
     },
-    /// There are 2^32 files or more.
+    /// There are 2^32 inputs or more.
     #[error("TooManyFiles")]
     TooManyFiles,
     /// The result's folder is this shard's: the merge would overwrite parts while it reads them.
@@ -138,8 +155,8 @@ impl From<JoinFault> for ShardFault {
     fn from(fault: JoinFault) -> ShardFault {
         match fault {
             JoinFault::OtherRequest { shard } => ShardFault::OtherRequest { shard },
-            JoinFault::TooManySplits { shard } => ShardFault::TooManySplits { shard },
             JoinFault::TooManyPairs => ShardFault::TooManyPairs,
+            JoinFault::PlaceTooFar { shard } => ShardFault::FarPlace { shard },
             JoinFault::OutOfMemory => ShardFault::OutOfMemory,
         }
     }
@@ -150,6 +167,7 @@ pub(crate) fn of_verdict(shard: usize, fault: VerdictFault) -> ShardFault
 {
     match fault {
         VerdictFault::BadLine { line } => ShardFault::BadVerdict { shard, line },
+        VerdictFault::OldVerdict => ShardFault::OldVerdict { shard },
         VerdictFault::OutOfMemory => ShardFault::OutOfMemory,
     }
 }

@@ -1,4 +1,8 @@
-//! Reads the shards' verdicts, and compares their inputs with a list as `sha256sum` writes it.
+//! Reads the shards' verdicts, and compares their inputs with a list.
+//!
+//!     DIGEST  NAME            a whole file, as `sha256sum` writes it
+//!     DIGEST FROM:TO NAME     another range of a file
+//!
 ghost use Rattle.std.specs.Prelude.{◌≡◌, ◌==◌, [], ◌∷◌, ◌++◌, ◌⊎◌, IfErr, IfOk, MatchOption, OnOk};
 ghost use Rattle.std.specs.Prelude.{count_by, option_map, map};
 ghost use Rattle.hex.specs.Hex.{encode_lower};
@@ -6,14 +10,17 @@ ghost use Rattle.mr_shard_files.specs.Faults.{IsListFault, IsListUnread, IsOther
 ghost use Rattle.mr_shard_files.specs.Faults.{IsUngathered};
 ghost use Rattle.mr_shard_files.specs.Listing.{DifferIn, IsListed, escaped as escaped_name};
 ghost use Rattle.mr_shard_files.specs.Listing.{escaped_byte, listed_line, listing, mark_of};
-ghost use Rattle.mr_files.specs.Holding.{Holding};
-ghost use Rattle.mr_shards.specs.Verdict.{spelling};
+ghost use Rattle.mr_shard_files.specs.Listing.{stretch_told};
+ghost use Rattle.mr_shard_files.specs.Merging.{AreHeard, IsHeard};
+ghost use Rattle.mr_shards.specs.Joined.{IsNearRange};
+ghost use Rattle.std.specs.List.{AllByRecursion};
 
 use crate::fault::{ShardFault, of_verdict};
 use hex::encode_to_slice;
+use itoa::Buffer;
 use mr_files::{LimitFault, Store, read_file_within};
 use mr_lanes::first_difference;
-use mr_shards::{FileNote, Verdict, read_verdict};
+use mr_shards::{FileRange, Verdict, read_verdict};
 use std::alloc::{AllocError, Global};
 
 fn put_byte(byte: u8, out: &mut Vec<u8>) -> Result<(), AllocError>
@@ -50,34 +57,53 @@ fn put_mark(name: &[u8], written: &[u8], out: &mut Vec<u8>) -> Result<(), AllocE
     }
 }
 
-/// Appends hexadecimal digits and two spaces.
+/// Appends hexadecimal digits and a space.
 fn put_digest(digest: &[u8; 32], out: &mut Vec<u8>) -> Result<(), AllocError>
-    ensures { OnOk result (out.new.items ≡ out.old.items ++ encode_lower digest.now ++ 32 ∷ 32 ∷ []) }
+    ensures { OnOk result (out.new.items ≡ out.old.items ++ encode_lower digest.now ++ 32 ∷ []) }
 {
     let mut text = [0u8; 64];
     let _ = encode_to_slice(digest.as_slice(), &mut text);
     out.extend_from_slice(&text)?;
-    out.extend_from_slice(b"  ")?;
+    out.push(b' ')?;
     Ok(())
 }
 
-fn put_line(alloc: Global, note: &FileNote, out: &mut Vec<u8>) -> Result<(), AllocError>
-    ensures { OnOk result (out.new.items ≡ out.old.items ++ listed_line note.now) }
+/// Appends a space if the range is a whole file; else `FROM:TO` and a space.
+fn put_stretch(range: &FileRange, out: &mut Vec<u8>) -> Result<(), AllocError>
+    requires { IsNearRange range.now }
+    ensures { OnOk result (out.new.items ≡ out.old.items ++ stretch_told range.now) }
 {
-    let name = escaped(alloc, note.name.as_slice())?;
-    put_mark(note.name.as_slice(), name.as_slice(), out)?;
-    put_digest(&note.digest, out)?;
+    if range.from == 0 && range.ends {
+        return out.push(b' ').map_err(AllocError::from);
+    }
+    let (mut from, mut to) = (Buffer::new(), Buffer::new());
+    out.extend_from_slice(from.format(range.from).as_bytes())?;
+    out.push(b':')?;
+    out.extend_from_slice(to.format(range.from + range.length).as_bytes())?;
+    out.push(b' ')?;
+    Ok(())
+}
+
+fn put_line(alloc: Global, range: &FileRange, out: &mut Vec<u8>) -> Result<(), AllocError>
+    requires { IsNearRange range.now }
+    ensures { OnOk result (out.new.items ≡ out.old.items ++ listed_line range.now) }
+{
+    let name = escaped(alloc, range.name.as_slice())?;
+    put_mark(range.name.as_slice(), name.as_slice(), out)?;
+    put_digest(&range.digest, out)?;
+    put_stretch(range, out)?;
     out.extend_from_slice(name.as_slice())?;
     out.push(b'\n')?;
     Ok(())
 }
 
-fn list_of(alloc: Global, inputs: &[FileNote]) -> Result<Vec<u8>, AllocError>
+fn list_of(alloc: Global, inputs: &[FileRange]) -> Result<Vec<u8>, AllocError>
+    requires { AllByRecursion IsNearRange inputs.now }
     ensures { IfOk result (λ text. text.items ≡ listing inputs.now) }
 {
     let mut text = Vec::new(alloc);
-    for note in inputs {
-        put_line(alloc, note, &mut text)?;
+    for range in inputs {
+        put_line(alloc, range, &mut text)?;
     }
     Ok(text)
 }
@@ -113,8 +139,9 @@ fn expect_list<S: Store>(
     store: &S,
     alloc: Global,
     name: &str,
-    inputs: &[FileNote],
+    inputs: &[FileRange],
 ) -> Result<(), ShardFault>
+    requires { AllByRecursion IsNearRange inputs.now }
     ensures ok { OnOk result (S.holds store.now name.now (listing inputs.now)) }
     ensures err { IfErr result (λ e. IsListUnread (S.holds store.now) (S.unreadable store.now) name.now e
         ⊎ IsOtherList (S.holds store.now) name.now inputs.now e) }
@@ -132,8 +159,9 @@ pub(crate) fn expect_listed<S: Store>(
     store: &S,
     alloc: Global,
     list: Option<&str>,
-    inputs: &[FileNote],
+    inputs: &[FileRange],
 ) -> Result<(), ShardFault>
+    requires { AllByRecursion IsNearRange inputs.now }
     ensures ok { OnOk result (IsListed (S.holds store.now) (option_map (λ n. n.now) list.entry) inputs.now) }
     ensures err { IfErr result (IsListFault (S.holds store.now) (S.unreadable store.now)
         (option_map (λ n. n.now) list.entry) inputs.now) }
@@ -156,7 +184,7 @@ fn verdict_under<S: Store>(
     name: &str,
     shard: usize,
 ) -> Result<Verdict, ShardFault>
-    ensures ok { IfOk result (λ v. S.holds store.now name.now (spelling v)) }
+    ensures ok { IfOk result (λ v. IsHeard (S.holds store.now) name.now v) }
     ensures err { IfErr result (IsUnheard (S.holds store.now) (S.unreadable store.now) shard name.now) }
 {
     let text = match read_file_within(store, alloc, name, MAX_TEXT_BYTES) {
@@ -176,7 +204,7 @@ pub(crate) fn read_verdicts<S: Store>(
     alloc: Global,
     names: &[&str],
 ) -> Result<Vec<Verdict>, ShardFault>
-    ensures ok { IfOk result (λ vs. Holding (S.holds store.now) (map (λ s. s.now) names.now) (map spelling vs.items)) }
+    ensures ok { IfOk result (λ vs. AreHeard (S.holds store.now) (map (λ s. s.now) names.now) vs.items) }
     ensures err { IfErr result
         (IsUngathered (S.holds store.now) (S.unreadable store.now) (map (λ s. s.now) names.now)) }
 {

@@ -1,17 +1,19 @@
-//! Merges shards: reads and joins the verdicts, checks the list of inputs and the files' names, opens
-//! the parts, merges each partition, and writes the verdict of the whole.
+//! Merges shards: reads and joins the verdicts, checks that their inputs tile files, checks the
+//! list of inputs and the files' names, opens the parts, merges each partition, and writes the
+//! verdict of the whole.
 ghost use Rattle.std.specs.Prelude.{◌≡◌, ◌<◌, ◌^◌, IfErr, IfOk, OnOk, length, map, option_map};
-ghost use Rattle.mr_files.specs.Holding.{Holding};
-ghost use Rattle.mr_shards.specs.Joined.{AreOnce, verdict_at, inputs_of};
+ghost use Rattle.std.specs.List.{AllByRecursion};
+ghost use Rattle.mr_shards.specs.Joined.{AreOnce, IsNearRange, IsRepeated, verdict_at, inputs_of};
+ghost use Rattle.mr_shards.specs.RangeNotes.{TileFiles};
 ghost use Rattle.mr_shards.specs.Truth.{Asks};
-ghost use Rattle.mr_shards.specs.Verdict.{spelling};
-ghost use Rattle.mr_shard_files.specs.Merging.{AreCounted, ChangesResult, IsJoinedOnce, IsMerged};
-ghost use Rattle.mr_shard_files.specs.Merging.{IsReady, with_outputs as with_notes};
+ghost use Rattle.mr_shard_files.specs.Merging.{AreCounted, AreHeard, ChangesResult, IsJoinedOnce};
+ghost use Rattle.mr_shard_files.specs.Merging.{IsMerged, IsReady, with_outputs as with_notes};
 ghost use Rattle.mr_shard_files.specs.Apart.{AreApart};
-ghost use Rattle.mr_shard_files.specs.Beside.{files_told, whole_files as whole_ones};
+ghost use Rattle.mr_shard_files.specs.Beside.{files_told};
 ghost use Rattle.mr_shard_files.specs.Listing.{IsListed};
 ghost use Rattle.mr_shard_files.specs.Sharing.{AreUnshared};
-ghost use Rattle.mr_shard_files.specs.Faults.{IsFirstFault, IsInputsFault, IsJoinedFault};
+ghost use Rattle.mr_shard_files.specs.Faults.{IsFirstFault, IsInputFault, IsInputsFault};
+ghost use Rattle.mr_shard_files.specs.Faults.{IsJoinedFault};
 ghost use Rattle.mr_shard_files.specs.Faults.{IsMergingFault, IsMiscounted, IsShardRefusal};
 ghost use Rattle.mr_shard_files.specs.Faults.{IsUnmeant, AreUnopened, IsTextsFault, IsUnopened};
 ghost use Rattle.mr_shard_files.specs.Streams.{AreOpened, AreRows, IsOpened};
@@ -24,7 +26,10 @@ use crate::sharing::{expect_apart, expect_unshared, save_verdict};
 use crate::stream::{Part, fault_of};
 use mr_files::{Store, folder_of, part_name};
 use mr_jobs::Request;
-use mr_shards::{FileNote, ShardFiles, Verdict, first_repeat, join_verdicts, request_of};
+use mr_shards::{
+    FileNote, FileRange, Gap, ShardFiles, Verdict, first_gap, first_repeat, join_verdicts,
+    request_of, shard_files,
+};
 use mr_store::ReadFault;
 use std::alloc::{AllocError, Global};
 use std::thread::Threads;
@@ -62,28 +67,70 @@ fn expect_outputs(verdicts: &[Verdict], parts: u32) -> Result<(), ShardFault>
     Ok(())
 }
 
-/// There are fewer than 2^32 inputs, each with its own name.
-fn expect_once(alloc: Global, inputs: &[FileNote]) -> Result<(), ShardFault>
+/// The first fault of inputs of which one begins a file again. Of one input the fault of its
+/// beginning comes first, then that of its name, then that of its end.
+fn first_fault(inputs: &[FileRange], partial: bool, repeat: usize) -> ShardFault
+    requires { IsRepeated inputs.now repeat }
+    ensures { IsInputFault partial inputs.now result }
+{
+    match first_gap(inputs, partial) {
+        None => ShardFault::RepeatedInput { input: repeat },
+        Some(Gap::NoBeginning { input }) => {
+            if repeat < input {
+                return ShardFault::RepeatedInput { input: repeat };
+            }
+            ShardFault::NoBeginning { input }
+        }
+        Some(Gap::NoEnd { input }) => {
+            if repeat <= input {
+                return ShardFault::RepeatedInput { input: repeat };
+            }
+            ShardFault::NoEnd { input }
+        }
+    }
+}
+
+/// The inputs tile files.
+fn expect_tiles(inputs: &[FileRange], partial: bool) -> Result<(), ShardFault>
+    requires { AreOnce inputs.now }
+    ensures ok { OnOk result (TileFiles partial inputs.now) }
+    ensures err { IfErr result (IsInputFault partial inputs.now) }
+{
+    match first_gap(inputs, partial) {
+        Some(Gap::NoBeginning { input }) => Err(ShardFault::NoBeginning { input }),
+        Some(Gap::NoEnd { input }) => Err(ShardFault::NoEnd { input }),
+        None => Ok(()),
+    }
+}
+
+/// There are fewer than 2^32 inputs. They tile files, and no file begins twice.
+fn expect_files(alloc: Global, inputs: &[FileRange], partial: bool) -> Result<(), ShardFault>
     ensures few { OnOk result (length inputs.now < 2 ^ 32) }
+    ensures tiles { OnOk result (TileFiles partial inputs.now) }
     ensures once { OnOk result (AreOnce inputs.now) }
-    ensures err { IfErr result (IsInputsFault inputs.now) }
+    ensures err { IfErr result (IsInputsFault partial inputs.now) }
 {
     if u32::try_from(inputs.len()).is_err() {
         return Err(ShardFault::TooManyFiles);
     }
     match first_repeat(alloc, inputs)? {
-        Some(input) => Err(ShardFault::RepeatedInput { input }),
-        None => Ok(()),
+        Some(input) => Err(first_fault(inputs, partial, input)),
+        None => expect_tiles(inputs, partial),
     }
 }
 
-fn join_once(alloc: Global, request: &Request, verdicts: &[Verdict]) -> Result<Verdict, ShardFault>
-    ensures ok { IfOk result (IsJoinedOnce request.now verdicts.now) }
-    ensures err { IfErr result (IsJoinedFault request.now verdicts.now) }
+fn join_once(
+    alloc: Global,
+    request: &Request,
+    verdicts: &[Verdict],
+    partial: bool,
+) -> Result<Verdict, ShardFault>
+    ensures ok { IfOk result (IsJoinedOnce partial request.now verdicts.now) }
+    ensures err { IfErr result (IsJoinedFault partial request.now verdicts.now) }
 {
     let joined = join_verdicts(alloc, request, verdicts)?;
     expect_outputs(verdicts, request.parts())?;
-    expect_once(alloc, joined.inputs.as_slice())?;
+    expect_files(alloc, joined.inputs.as_slice(), partial)?;
     Ok(joined)
 }
 
@@ -93,13 +140,17 @@ fn add_notes(verdict: Verdict, outputs: Vec<FileNote>) -> Verdict
     Verdict { outputs, ..verdict }
 }
 
-/// The names that a merge gets: of the verdicts, of a list of their inputs, and of the result's
-/// folder.
+/// What a merge is asked for.
 #[derive(Clone, Copy)]
-pub(crate) struct MergePlan<'a> {
+pub struct MergePlan<'a> {
+    /// The names of the verdicts, in the order of their inputs.
     pub names: &'a [&'a str],
+    /// The file that must list exactly the inputs of the verdicts, in their order.
     pub list: Option<&'a str>,
+    /// The folder of the result.
     pub out: &'a str,
+    /// The first input may begin inside its file, and the last one may end before its file does.
+    pub partial: bool,
 }
 
 /// Checks the list of inputs if there is one, then the folders, then the names of files.
@@ -107,9 +158,10 @@ fn expect_meant<S: Store>(
     store: &S,
     alloc: Global,
     plan: &MergePlan<'_>,
-    inputs: &[FileNote],
+    inputs: &[FileRange],
     parts: u32,
 ) -> Result<(), ShardFault>
+    requires { AllByRecursion IsNearRange inputs.now }
     ensures listed { OnOk result (IsListed (S.holds store.now) (option_map (λ n. n.now) plan.now.list) inputs.now) }
     ensures apart { OnOk result (AreApart (map (λ s. s.now) plan.now.names.now) plan.now.out.now) }
     ensures unshared { OnOk result (AreUnshared (S.known_as store.now)
@@ -132,13 +184,13 @@ fn prepare<S: Store>(
 ) -> Result<(Request, Verdict), ShardFault>
     ensures ok { IfOk result (λ r. IsReady (S.holds store.now) (S.known_as store.now)
         (map (λ s. s.now) plan.now.names.now) (option_map (λ n. n.now) plan.now.list)
-        plan.now.out.now verdicts.now r.0 r.1) }
+        plan.now.out.now plan.now.partial verdicts.now r.0 r.1) }
     ensures err { IfErr result (IsMergingFault (S.holds store.now) (S.unreadable store.now)
         (S.alike store.now) (S.known_as store.now) (map (λ s. s.now) plan.now.names.now)
-        (option_map (λ n. n.now) plan.now.list) plan.now.out.now verdicts.now) }
+        (option_map (λ n. n.now) plan.now.list) plan.now.out.now plan.now.partial verdicts.now) }
 {
     let request = first_request(alloc, verdicts)?;
-    let joined = join_once(alloc, &request, verdicts)?;
+    let joined = join_once(alloc, &request, verdicts, plan.partial)?;
     let parts = request.parts();
     expect_meant(store, alloc, plan, joined.inputs.as_slice(), parts)?;
     Ok((request, joined))
@@ -151,29 +203,31 @@ fn merge_verdicts<S: Store, T: Threads>(
     plan: &MergePlan<'_>,
     verdicts: &[Verdict],
 ) -> Result<Verdict, ShardFault>
-    requires { Holding (S.holds store.old) (map (λ s. s.now) plan.now.names.now) (map spelling verdicts.now) }
+    requires { AreHeard (S.holds store.old) (map (λ s. s.now) plan.now.names.now) verdicts.now }
     ensures ok { IfOk result (IsMerged (S.holds store.old) (S.holds store.new)
         (S.known_as store.old) (map (λ s. s.now) plan.now.names.now)
-        (option_map (λ n. n.now) plan.now.list) plan.now.out.now) }
+        (option_map (λ n. n.now) plan.now.list) plan.now.out.now plan.now.partial) }
     ensures others { ChangesResult (S.holds store.old) (S.holds store.new) plan.now.out.now }
     ensures refused { IfErr result (IsShardRefusal (S.holds store.old) (S.holds store.new)
         (S.unreadable store.old) (S.unwritable store.old)
         (S.alike store.old) (S.known_as store.old) (map (λ s. s.now) plan.now.names.now)
-        (option_map (λ n. n.now) plan.now.list) plan.now.out.now) }
+        (option_map (λ n. n.now) plan.now.list) plan.now.out.now plan.now.partial) }
 {
     let MergePlan { names, out, .. } = *plan;
     let (request, joined) = prepare(store, alloc, plan, verdicts)?;
-    let notes = partitions_written(rt, store, alloc, &request, names, verdicts, out)?;
+    let files = list_files(alloc, joined.inputs.as_slice(), verdicts)?;
+    let files = files.as_slice();
+    let notes = partitions_written(rt, store, alloc, &request, names, verdicts, files, out)?;
     let merged = add_notes(joined, notes);
     save_verdict(store, alloc, out, &merged)?;
     Ok(merged)
 }
 
-/// Merges shards. Each name is that of a verdict, with the parts that it lists in the same folder.
-/// The merge writes the parts of the result to `out`, and last their verdict, which it returns.
-/// Before the first part it empties the verdict in `out`: if a part turns out not to be its
-/// verdict's, `out` has no verdict. If `inputs` names a file, this must list exactly the verdicts'
-/// inputs, in their order, in the form of `sha256sum`.
+/// Merges shards. Each name of the plan is that of a verdict, with the parts that it lists in the
+/// same folder. The inputs of all verdicts, one behind another, tile files; none begins twice. The
+/// merge writes the parts of the result to the folder, and last their verdict, which it returns.
+/// Before the first part it empties the verdict there: if a part turns out not to be its verdict's,
+/// the folder has no verdict. A list has a line of `sha256sum` for each whole file.
 ///
 /// The parts of a partition are open together. Memory holds some 256 KiB of each and the text that
 /// they merge to. Up to two more threads take digests meanwhile. A line without an end is kept as
@@ -182,23 +236,19 @@ pub fn merge_shards<S: Store, T: Threads>(
     rt: &T,
     store: &mut S,
     alloc: Global,
-    names: &[&str],
-    inputs: Option<&str>,
-    out: &str,
+    plan: &MergePlan<'_>,
 ) -> Result<Verdict, ShardFault>
     ensures ok { IfOk result (IsMerged (S.holds store.old) (S.holds store.new)
-        (S.known_as store.old) (map (λ s. s.now) names.now)
-        (option_map (λ n. n.now) inputs.entry) out.now) }
-    ensures others { ChangesResult (S.holds store.old) (S.holds store.new) out.now }
+        (S.known_as store.old) (map (λ s. s.now) plan.now.names.now)
+        (option_map (λ n. n.now) plan.now.list) plan.now.out.now plan.now.partial) }
+    ensures others { ChangesResult (S.holds store.old) (S.holds store.new) plan.now.out.now }
     ensures refused { IfErr result (IsShardRefusal (S.holds store.old) (S.holds store.new)
         (S.unreadable store.old) (S.unwritable store.old)
-        (S.alike store.old) (S.known_as store.old) (map (λ s. s.now) names.now)
-        (option_map (λ n. n.now) inputs.entry) out.now) }
+        (S.alike store.old) (S.known_as store.old) (map (λ s. s.now) plan.now.names.now)
+        (option_map (λ n. n.now) plan.now.list) plan.now.out.now plan.now.partial) }
 {
-    let list = inputs;
-    let plan = MergePlan { names, list, out };
-    let verdicts = read_verdicts(store, alloc, names)?;
-    merge_verdicts(rt, store, alloc, &plan, verdicts.as_slice())
+    let verdicts = read_verdicts(store, alloc, plan.names)?;
+    merge_verdicts(rt, store, alloc, plan, verdicts.as_slice())
 }
 
 /// The output's length in the verdict; 0 if it lists no such output.
@@ -280,26 +330,25 @@ pub(crate) fn open_all<S: Store>(
     Ok(rows)
 }
 
-/// So many files, none of which goes on.
-fn whole_files(count: u32) -> ShardFiles
-    ensures { result ≡ whole_ones count }
-{
-    ShardFiles { count, cut: None }
-}
-
-/// The files of each shard. All together fit in 32 bits.
-pub(crate) fn shard_files(
+/// The files of each shard. The inputs are those of all verdicts, one behind another.
+fn list_files(
     alloc: Global,
+    inputs: &[FileRange],
     verdicts: &[Verdict],
 ) -> Result<Vec<ShardFiles>, AllocError>
-    requires { length (inputs_of verdicts.now) < 2 ^ 32 }
-    ensures { IfOk result (λ fs. fs.items ≡ map files_told verdicts.now) }
+    requires all { inputs.now ≡ inputs_of verdicts.now }
+    requires few { length inputs.now < 2 ^ 32 }
+    ensures { IfOk result (λ fs. fs.items ≡ files_told verdicts.now) }
 {
     let mut all = Vec::new(alloc);
+    let mut rest = inputs;
     for shard in 0..verdicts.len() {
         let verdict = &verdicts[shard];
-        let files = whole_files(verdict.inputs.len() as u32);
-        all.push(files).map_err(AllocError::from)?;
+        let ranges = verdict.inputs.as_slice();
+        let (_, behind) = rest.split_at(ranges.len());
+        all.push(shard_files(ranges, behind))
+            .map_err(AllocError::from)?;
+        rest = behind;
     }
     Ok(all)
 }

@@ -7,6 +7,7 @@ ghost use Rattle.mr_files.specs.Names.{name_of_part, part_file, part_file as fil
 ghost use Rattle.mr_files.specs.Names.{part_files};
 ghost use Rattle.mr_shards.specs.Joined.{inputs_of};
 ghost use Rattle.mr_shards.specs.Truth.{note_for, note_for as note_telling, notes_for};
+ghost use Rattle.mr_shard_files.specs.Beside.{files_told};
 ghost use Rattle.mr_shard_files.specs.Faults.{IsPartsFault};
 ghost use Rattle.mr_shard_files.specs.Made.{HasWritten, ReportsUnwritten};
 ghost use Rattle.mr_shard_files.specs.Merging.{ArePartsWritten};
@@ -14,7 +15,7 @@ ghost use Rattle.mr_shard_files.specs.Streams.{AreJoined, IsRefused};
 ghost use Rattle.mr_input.specs.Files.{contents};
 
 use crate::fault::ShardFault;
-use crate::merging::{open_all, shard_files};
+use crate::merging::open_all;
 use crate::sharing::put_verdict;
 use crate::stream::Part;
 use crate::turns::joined;
@@ -123,10 +124,12 @@ pub(crate) fn partitions_written<S: Store, T: Threads>(
     request: &Request,
     names: &[&str],
     verdicts: &[Verdict],
+    files: &[ShardFiles],
     dir: &str,
 ) -> Result<Vec<FileNote>, ShardFault>
     requires count { length names.now ≡ length verdicts.now }
     requires few { length (inputs_of verdicts.now) < 2 ^ 32 }
+    requires files { files.now ≡ files_told verdicts.now }
     ensures ok { IfOk result (λ ns. ArePartsWritten (S.holds store.old) (S.holds store.new) request.now
         (map (λ s. s.now) names.now) verdicts.now dir.now ns.items) }
     ensures still { (n : List ℕ) → S.unwritable store.new n → S.unwritable store.old n }
@@ -134,7 +137,6 @@ pub(crate) fn partitions_written<S: Store, T: Threads>(
         (S.unreadable store.old) (S.unwritable store.old)
         request.now (map (λ s. s.now) names.now) verdicts.now dir.now) }
 {
-    let files = shard_files(alloc, verdicts)?;
     let count = request.parts() as usize;
     let mut rows = open_all(store, alloc, names, verdicts, count)?;
     put_verdict(store, alloc, dir, b"")?;
@@ -142,7 +144,6 @@ pub(crate) fn partitions_written<S: Store, T: Threads>(
     for partition in 0..count {
         let parts = rows[partition].as_mut_slice();
         let job = request.job();
-        let files = files.as_slice();
         let note = part_written(
             rt, store, alloc, job, files, parts, verdicts, partition, dir,
         )?;

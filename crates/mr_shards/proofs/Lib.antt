@@ -14,6 +14,7 @@ pub mod WholeLaws
 pub mod RefusedLemmas
 pub mod TotalLemmas
 pub mod JudgedLaws
+pub mod StretchLemmas
 pub mod WindowLemmas
 pub mod PieceLemmas
 pub mod PlaceLemmas
@@ -41,6 +42,7 @@ pub mod SpotLemmas
 pub mod LeftOutLemmas
 pub mod PortionLaws
 pub mod SpotLaws
+pub mod NameSpotLemmas
 pub mod FileNumberLemmas
 pub mod AlikeLemmas
 pub mod LineLaws
@@ -50,3 +52,4 @@ pub mod RangeLaws
 pub mod FieldLemmas
 pub mod GapLemmas
 pub mod PastLemmas
+pub mod DigestLemmas

@@ -1,11 +1,11 @@
 -- How far places move behind ranges, counted from the last range.
-use Rattle.std.proofs.Common.{◌≡◌, ℕ, suc, zero, ◌+◌, ◌-◌, ◌<◌, ◌≤◌, cond, eqb, Bool, true, false, List, [], ◌∷◌, length, drop, get_or, refl, sym, ◌∙◌, ap, subst, arith, inl, inr}
+use Rattle.std.proofs.Common.{◌≡◌, ℕ, suc, zero, ◌+◌, ◌-◌, ◌<◌, ◌≤◌, cond, eqb, Bool, true, false, List, [], ◌∷◌, None, Some, length, drop, get_or, refl, sym, ◌∙◌, ap, subst, arith, inl, inr}
 use Rattle.std.proofs.lemmas.Bool.{cases_eq, eq-eqb, ne_eqb}
 use Rattle.std.proofs.lemmas.List.{length-drop}
 use Rattle.mr_shards.specs.Gaps.{goes_on_at, note_at}
-use Rattle.mr_shards.specs.Portions.{past_files, shift_behind}
+use Rattle.mr_shards.specs.Portions.{past_cut, past_shard, shift_behind}
 use Rattle.mr_shards.specs.RangeNotes.{RangeNote, first_goes_on, goes_on}
-use Rattle.mr_shards.specs.RangeVerdicts.{end_of, file_lengths, last_goes_on, last_number, shift_past, with_length}
+use Rattle.mr_shards.specs.RangeVerdicts.{end_of, file_lengths, files_of, last_goes_on, last_number, shift_past, with_length}
 use Rattle.mr_shards.proofs.TileLemmas.{goes-on}
 
 -- ---- lengths of files
@@ -149,24 +149,43 @@ pub past-done : (ns : List RangeNote) (at files begin : ℕ) → (0 < at → ⊥
 past-done ns zero files begin none p = p
 past-done ns (suc at) files begin none p = absurd (none (omega arith))
 
--- ---- the shift
+-- ---- the files and the shift
 
-some-goes : (ms ns : List RangeNote) → last_goes_on ms ns ≡ true → 0 < length (file_lengths ms)
-some-goes [] ns e = absurd cc
-some-goes (m ∷ ms) ns e = some-lengths m ms
+-- so many files, of which the last one begins there in its file
+pub record IsCounted (ns : List RangeNote) (files begin : ℕ) : Type 0 where
+  pub count : files ≡ length (file_lengths ns)
+  pub end : 0 < files → begin + last_number (file_lengths ns) ≡ end_of ns
 
-pub past-some : (ms ns : List RangeNote) (files begin : ℕ) → IsPast ms files begin → last_goes_on ms ns ≡ true → 0 < files
-past-some ms ns files begin p e = omega (arith, p.count, some-goes ms ns e)
+pub counted-some : (ms ns : List RangeNote) (files begin : ℕ) → IsCounted ms files begin → last_goes_on ms ns ≡ true → 0 < files
+counted-some [] ns files begin p e = absurd cc
+counted-some (m ∷ ms) ns files begin p e = omega (arith, p.count, some-lengths m ms)
 
-pub past-cut : (ms ns : List RangeNote) (files begin end : ℕ) → IsPast ms files begin → last_goes_on ms ns ≡ true → end ≡ end_of ms
+-- the shift behind a shard is that behind its ranges
+pub files-of-past : (ms ns : List RangeNote) → past_shard (files_of ms ns) ≡ shift_past ms ns
+files-of-past ms ns = by (last_goes_on ms ns) (length (file_lengths ms)) (last_number (file_lengths ms))
+  where
+    by : (b : Bool) (count last : ℕ) → past_cut count (cond b (Some last) None) ≡ shift_behind b count last
+    by true count last = refl
+    by false count last = refl
+
+pub files-cut : (ms ns : List RangeNote) (files begin end : ℕ) → IsCounted ms files begin → last_goes_on ms ns ≡ true → end ≡ end_of ms
+    → record { count = files; cut = Some (end - begin) } ≡ files_of ms ns
+files-cut ms ns files begin end p e is =
+    let last : end - begin ≡ last_number (file_lengths ms) = omega (arith, is, p.end (counted-some ms ns files begin p e)) in
+    (λ i. record { count = p.count i; cut = Some (last i) })
+    ∙ sym (ap (λ b. record { count = length (file_lengths ms); cut = cond b (Some (last_number (file_lengths ms))) None }) e)
+
+pub files-whole : (ms ns : List RangeNote) (files begin : ℕ) → IsCounted ms files begin → last_goes_on ms ns ≡ false → record { count = files; cut = None } ≡ files_of ms ns
+files-whole ms ns files begin p e =
+    (λ i. record { count = p.count i; cut = None })
+    ∙ sym (ap (λ b. record { count = length (file_lengths ms); cut = cond b (Some (last_number (file_lengths ms))) None }) e)
+
+pub past-cut : (ms ns : List RangeNote) (files begin end : ℕ) → IsCounted ms files begin → last_goes_on ms ns ≡ true → end ≡ end_of ms
     → record { files = files - 1; bytes = end - begin } ≡ shift_past ms ns
-past-cut ms ns files begin end p e is =
-    let count : files - 1 ≡ length (file_lengths ms) - 1 = ap (λ k. k - 1) p.count in
-    let bytes : end - begin ≡ last_number (file_lengths ms) = omega (arith, is, p.end (past-some ms ns files begin p e)) in
-    (λ i. record { files = count i; bytes = bytes i }) ∙ sym (ap (λ b. shift_behind b (length (file_lengths ms)) (last_number (file_lengths ms))) e)
+past-cut ms ns files begin end p e is = ap past_shard (files-cut ms ns files begin end p e is) ∙ files-of-past ms ns
 
-pub past-whole : (ms ns : List RangeNote) (files begin : ℕ) → IsPast ms files begin → last_goes_on ms ns ≡ false → record { files = files; bytes = 0 } ≡ shift_past ms ns
-past-whole ms ns files begin p e = ap past_files p.count ∙ sym (ap (λ b. shift_behind b (length (file_lengths ms)) (last_number (file_lengths ms))) e)
+pub past-whole : (ms ns : List RangeNote) (files begin : ℕ) → IsCounted ms files begin → last_goes_on ms ns ≡ false → record { files = files; bytes = 0 } ≡ shift_past ms ns
+past-whole ms ns files begin p e = ap past_shard (files-whole ms ns files begin p e) ∙ files-of-past ms ns
 
 -- ---- the border
 

@@ -3,7 +3,6 @@ use Rattle.std.proofs.Common.{◌≡◌, ℕ, zero, suc, ◌+◌, ◌<◌, ◌�
 use Rattle.std.proofs.lemmas.List.{drop_all, drop_more, length-take-le}
 use Rattle.mr_shards.specs.declared.window.Held.{Held}
 use Rattle.mr_shards.specs.declared.window.Window.{Window}
-use Rattle.std.proofs.Common.{None}
 use Rattle.std.specs.List.{AllByRecursion}
 use Rattle.mr_shards.specs.Merged.{texts}
 use Rattle.mr_shards.specs.Outputs.{parts_in}

@@ -1,5 +1,5 @@
 -- Texts of lines with keys in turn, line by line.
-use Rattle.std.proofs.Common.{◌⊎◌, Result, Err, ◌≤◌, ◌≡◌, ℕ, zero, suc, ◌+◌, ◌<◌, ◌%◌, ◌^◌, ◌++◌, List, [], ◌∷◌, length, get_or, set, refl, ap, sym, ◌∙◌, subst, inl, inr, arith, Option, None, Some, map, replicate, take}
+use Rattle.std.proofs.Common.{Result, Err, ◌≤◌, ◌≡◌, ℕ, zero, suc, ◌+◌, ◌<◌, ◌%◌, ◌^◌, ◌++◌, List, [], ◌∷◌, length, get_or, set, refl, ap, sym, ◌∙◌, subst, inl, inr, arith, Option, None, Some, map, replicate, take}
 use Rattle.std.proofs.lemmas.Bool.{cases_eq}
 use Rattle.std.proofs.lemmas.List.Sums.{sum_by-cons, sum_by-take-le}
 use Rattle.std.proofs.lemmas.List.{append_assoc, append-nil, append_cancel_left, get_or-set_same, get_or-set_other, get_or_append_left, get_or_at, length-set, length-replicate, length_push, get_or-map, take_more}

@@ -1,7 +1,8 @@
 -- Names seen before.
-use Rattle.std.proofs.Common.{◌≡◌, ◌⊎◌, inl, inr, ℕ, suc, ◌+◌, ◌<◌, ◌++◌, Bool, true, false, List, [], ◌∷◌, length, map, take, get_or, refl, ap, sym, ◌∙◌, subst, arith, ◌||◌, ◌↔◌}
-use Rattle.std.proofs.Math.Seq.{take-suc}
-use Rattle.std.proofs.lemmas.List.{map-append}
+use Rattle.std.proofs.Common.{◌≡◌, ◌⊎◌, inl, inr, ℕ, zero, suc, ◌+◌, ◌<◌, ◌++◌, Bool, true, false, cond, List, [], ◌∷◌, length, map, take, get_or, refl, ap, sym, ◌∙◌, subst, arith, ◌||◌, ◌↔◌}
+use Rattle.std.proofs.lemmas.List.{append-nil}
+use Rattle.mr_shards.specs.Gaps.{goes_on_at}
+use Rattle.mr_shards.specs.RangeNotes.{RangeNote, goes_on, names_from, names_of}
 use Rattle.std.specs.Prelude.{not}
 use Rattle.std.specs.List.{list_any}
 use Rattle.std.specs.Ordering.{is_eq, match_ordering}
@@ -82,9 +83,28 @@ module _ {X : Type 0} (f : X → List ℕ) (cmp : X → X → Ordering) (ties : 
       by Equal e rest = inl (sym (bytes_eq-is (f k) (f x) (sym e)))
       by Greater e rest = inr rest
 
--- the names of the first, with one more
-names-next : {X : Type 0} (f : X → List ℕ) (xs : List X) (i : ℕ) (d : X) → i < length xs → map f (take (i + 1) xs) ≡ map f (take i xs) ++ f (get_or xs i d) ∷ []
-names-next f xs i d less = let e : i + 1 ≡ suc i = omega arith in ap (λ k. map f (take k xs)) e ∙ (ap (map f) (take-suc xs i d less) ∙ map-append f (take i xs) (get_or xs i d ∷ []))
+-- the names that begin among the ranges behind this one, with one range more
+from-next : (m : RangeNote) (ns : List RangeNote) (i : ℕ) (d : RangeNote) → i < length ns
+    → names_from m (take (suc i) ns) ≡ names_from m (take i ns) ++ cond (goes_on_at (m ∷ ns) (suc i)) [] ((get_or ns i d).name ∷ [])
+from-next m [] i d less = absurd (omega (arith, less))
+from-next m (n ∷ ns) zero d less = refl
+from-next m (n ∷ ns) (suc i) d less = ap (λ l. cond (goes_on m n) l (n.name ∷ l)) (from-next n ns i d (omega (arith, less))) ∙ by (goes_on m n)
+  where
+    more : List (List ℕ)
+    more = cond (goes_on_at (n ∷ ns) (suc i)) [] ((get_or ns i d).name ∷ [])
+
+    by : (b : Bool) → cond b (names_from n (take i ns) ++ more) (n.name ∷ (names_from n (take i ns) ++ more)) ≡ cond b (names_from n (take i ns)) (n.name ∷ names_from n (take i ns)) ++ more
+    by true = refl
+    by false = refl
+
+names-next : (ns : List RangeNote) (i : ℕ) (d : RangeNote) → i < length ns
+    → names_of (take (i + 1) ns) ≡ names_of (take i ns) ++ cond (goes_on_at ns i) [] ((get_or ns i d).name ∷ [])
+names-next ns i d less = (let e : i + 1 ≡ suc i = omega arith in ap (λ k. names_of (take k ns)) e) ∙ by ns i less
+  where
+    by : (ns : List RangeNote) (i : ℕ) → i < length ns → names_of (take (suc i) ns) ≡ names_of (take i ns) ++ cond (goes_on_at ns i) [] ((get_or ns i d).name ∷ [])
+    by [] i less = absurd (omega (arith, less))
+    by (n ∷ ns) zero less = refl
+    by (n ∷ ns) (suc i) less = ap (λ l. n.name ∷ l) (from-next n ns i d (omega (arith, less)))
 
 -- those seen are the names of the first, and these differ
 pub record AreSeen (seen names : List (List ℕ)) : Type 0 where
@@ -95,18 +115,27 @@ only : (n m : List ℕ) → Has (n ∷ []) m → n ≡ m
 only n m (inl e) = e
 only n m (inr h) = absurd h
 
-pub seen-next : {X : Type 0} (f : X → List ℕ) (xs : List X) (i : ℕ) (d : X) (old new : List (List ℕ)) (n : List ℕ) → i < length xs → n ≡ f (get_or xs i d)
-    → AreSeen old (map f (take i xs)) → (Has old n → ⊥) → ((m : List ℕ) → Has new m ↔ (Has old m ⊎ (n ≡ m))) → AreSeen new (map f (take (i + 1) xs))
-seen-next f xs i d old new n less is was fresh grows =
-    subst (AreSeen new) (sym (names-next f xs i d less ∙ ap (λ (m : List ℕ). map f (take i xs) ++ m ∷ []) (sym is))) (record {
-      same = λ m. (λ h. to m ((grows m).0 h), λ h. (grows m).1 (from m (Has-append_cases (map f (take i xs)) (n ∷ []) m h)));
-      once = Distinct-append (map f (take i xs)) (n ∷ []) was.once ((λ h. h), tt) (λ m h k. fresh ((was.same n).1 (subst (Has (map f (take i xs))) (sym (only n m k)) h)));
+-- the name of a range that goes on was seen, and one that begins is new
+pub seen-same : (ns : List RangeNote) (i : ℕ) (d : RangeNote) (seen : List (List ℕ)) → i < length ns → goes_on_at ns i ≡ true
+    → AreSeen seen (names_of (take i ns)) → AreSeen seen (names_of (take (i + 1) ns))
+seen-same ns i d seen less goes was =
+    subst (AreSeen seen) (sym (names-next ns i d less ∙ ap (λ b. names_of (take i ns) ++ cond b [] ((get_or ns i d).name ∷ [])) goes ∙ append-nil (names_of (take i ns)))) was
+
+pub seen-next : (ns : List RangeNote) (i : ℕ) (d : RangeNote) (old new : List (List ℕ)) (n : List ℕ) → i < length ns → n ≡ (get_or ns i d).name → goes_on_at ns i ≡ false
+    → AreSeen old (names_of (take i ns)) → (Has old n → ⊥) → ((m : List ℕ) → Has new m ↔ (Has old m ⊎ (n ≡ m))) → AreSeen new (names_of (take (i + 1) ns))
+seen-next ns i d old new n less is begins was fresh grows =
+    subst (AreSeen new) (sym (names-next ns i d less ∙ ap (λ b. names ++ cond b [] ((get_or ns i d).name ∷ [])) begins ∙ ap (λ (m : List ℕ). names ++ m ∷ []) (sym is))) (record {
+      same = λ m. (λ h. to m ((grows m).0 h), λ h. (grows m).1 (from m (Has-append_cases names (n ∷ []) m h)));
+      once = Distinct-append names (n ∷ []) was.once ((λ h. h), tt) (λ m h k. fresh ((was.same n).1 (subst (Has names) (sym (only n m k)) h)));
     })
   where
-    to : (m : List ℕ) → Has old m ⊎ (n ≡ m) → Has (map f (take i xs) ++ n ∷ []) m
-    to m (inl h) = Has-append_left (map f (take i xs)) (n ∷ []) m ((was.same m).0 h)
-    to m (inr e) = Has-append_right (map f (take i xs)) (n ∷ []) m (inl e)
+    names : List (List ℕ)
+    names = names_of (take i ns)
 
-    from : (m : List ℕ) → Has (map f (take i xs)) m ⊎ Has (n ∷ []) m → Has old m ⊎ (n ≡ m)
+    to : (m : List ℕ) → Has old m ⊎ (n ≡ m) → Has (names ++ n ∷ []) m
+    to m (inl h) = Has-append_left names (n ∷ []) m ((was.same m).0 h)
+    to m (inr e) = Has-append_right names (n ∷ []) m (inl e)
+
+    from : (m : List ℕ) → Has names m ⊎ Has (n ∷ []) m → Has old m ⊎ (n ≡ m)
     from m (inl h) = inl ((was.same m).1 h)
     from m (inr k) = inr (only n m k)

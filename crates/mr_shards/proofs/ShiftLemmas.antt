@@ -13,7 +13,7 @@ use Rattle.mr_bytes.specs.Lists.{Rises}
 use Rattle.mr_shards.proofs.MergedLaws.{keys, merged-rise}
 use Rattle.mr_shards.specs.Portions.{MergedAtOnce, Part, Shift, behind, merged_groups, merged_portions, no_shift, shifted_group, shifted_parts, shifted_start, shifted_value}
 
-start-twice : (s t : Shift) (file start : ℕ) → shifted_start s (t.files + file) (shifted_start t file start) ≡ shifted_start (behind s t) file start
+pub start-twice : (s t : Shift) (file start : ℕ) → shifted_start s (t.files + file) (shifted_start t file start) ≡ shifted_start (behind s t) file start
 start-twice s t file start =
     elim (cases_eq file 0) [
       | inl none ↦

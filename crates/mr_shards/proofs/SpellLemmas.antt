@@ -8,12 +8,13 @@ use Rattle.std.specs.Str.{bytes_eq}
 use Rattle.hex.specs.Hex.{IsBytes, encode_lower, encode_with, hex_digit_value, lower_digits}
 use Rattle.hex.proofs.HexLemmas.{IsDigits-lower_digits}
 use Rattle.mr_bytes.specs.Cut.{Lacks}
-use Rattle.mr_bytes.specs.declared.RecordName.{RecordName}
 use Rattle.mr_bytes.proofs.CutLemmas.{cut-parts}
 use Rattle.mr_shards.proofs.ReadingLemmas.{Lacks-append, decimal-lacks}
 use Rattle.mr_shards.specs.Lines.{lines}
-use Rattle.mr_shards.specs.Verdict.{Note, Told, line_of, name_line, name_told, note_line, note_told, number_line, spelling}
-use Rattle.mr_shards.specs.Reading.{Fits, NameFits, NoteFits, told_by, told_of, told_under, with_told}
+use Rattle.mr_shards.specs.RangeNotes.{RangeNote}
+use Rattle.mr_shards.specs.Spots.{Spot}
+use Rattle.mr_shards.specs.Verdict.{Note, Told, ending, line_of, note_line, note_told, number_line, place_told, range_line, range_told, spelled, spot_line, spot_told}
+use Rattle.mr_shards.specs.Reading.{Fits, NoteFits, RangeFits, SpotFits, told_by, told_of, told_under, with_told}
 use Rattle.mr_shards.proofs.ReadLemmas.{lines-next, under-end}
 
 -- ---- bytes that are nowhere
@@ -44,11 +45,6 @@ note-line n fits =
     Lacks-append 10 (encode_lower n.digest) (32 ∷ (decimal n.length ++ 32 ∷ n.name)) (hex-lacks 10 n.digest refl fits.bytes)
     (λ e. omega (arith, e), Lacks-append 10 (decimal n.length) (32 ∷ n.name) (decimal-line n.length fits.few) (λ e. omega (arith, e), fits.clear))
 
-name-line : (n : RecordName) → NameFits n → Lacks 10 (name_told n)
-name-line n fits =
-    Lacks-append 10 (decimal n.split) (32 ∷ decimal n.rec) (decimal-line n.split (omega (arith, fits.split)))
-    (λ e. omega (arith, e), decimal-line n.rec (omega (arith, fits.rec)))
-
 -- a test that computes
 abbrev lacks_in : ℕ → List ℕ → Bool
 lacks_in b [] = true
@@ -61,6 +57,34 @@ lacks-test b (x ∷ xs) e = by (cases_eq x b) (lacks-test b xs)
     by : (x ≡ b) ⊎ (x ≢ b) → (lacks_in b xs ≡ true → Lacks b xs) → Lacks b (x ∷ xs)
     by (inl same) rest = (let bad : false ≡ true = sym (ap (λ t. cond t false (lacks_in b xs)) (eq-eqb x b same)) ∙ e in absurd (cc bad))
     by (inr other) rest = (other, rest (sym (ap (λ t. cond t false (lacks_in b xs)) (ne_eqb x b other)) ∙ e))
+
+spot-line : (s : Spot) → SpotFits s → Lacks 10 (spot_told s)
+spot-line s fits =
+    Lacks-append 10 (decimal s.file) (32 ∷ decimal s.start) (decimal-line s.file (omega (arith, fits.file)))
+    (λ e. omega (arith, e), decimal-line s.start fits.start)
+
+-- a byte that stands in no word of an ending
+ending-lacks : (b : ℕ) (n : RangeNote) → lacks_in b (codes "more") ≡ true → lacks_in b (codes "end") ≡ true → lacks_in b (codes "open") ≡ true → Lacks b (ending n)
+ending-lacks b n more end ajar = by n.ends n.closed
+  where
+    by : (e c : Bool) → Lacks b (cond e (cond c (codes "end") (codes "open")) (codes "more"))
+    by false c = lacks-test b (codes "more") more
+    by true true = lacks-test b (codes "end") end
+    by true false = lacks-test b (codes "open") ajar
+
+pub ending-space : (n : RangeNote) → Lacks 32 (ending n)
+ending-space n = ending-lacks 32 n refl refl refl
+
+place-line : (old : Bool) (n : RangeNote) → RangeFits old n → Lacks 10 (place_told old n)
+place-line true n fits = fits.clear
+place-line false n fits =
+    Lacks-append 10 (decimal n.from) (32 ∷ (ending n ++ 32 ∷ n.name)) (decimal-line n.from fits.near)
+    (λ e. omega (arith, e), Lacks-append 10 (ending n) (32 ∷ n.name) (ending-lacks 10 n refl refl refl) (λ e. omega (arith, e), fits.clear))
+
+range-line : (old : Bool) (n : RangeNote) → RangeFits old n → Lacks 10 (range_told old n)
+range-line old n fits =
+    Lacks-append 10 (encode_lower n.digest) (32 ∷ (decimal n.length ++ 32 ∷ place_told old n)) (hex-lacks 10 n.digest refl fits.bytes)
+    (λ e. omega (arith, e), Lacks-append 10 (decimal n.length) (32 ∷ place_told old n) (decimal-line n.length fits.few) (λ e. omega (arith, e), place-line old n fits))
 
 -- ---- what a line tells
 
@@ -121,12 +145,12 @@ one u told word ts = cond (bytes_eq u word) (told ∷ ts) ts
 abbrev pub many : List ℕ → List (List ℕ) → List ℕ → List (List ℕ) → List (List ℕ)
 many u tolds word ts = cond (bytes_eq u word) (tolds ++ ts) ts
 
-abbrev pub all_told : List ℕ → Told → List (List ℕ)
-all_told word v =
-    one (codes "verdict") (decimal 1) word (one (codes "job") (decimal v.job) word (one (codes "flags") (decimal v.flags) word
+abbrev pub all_told : Bool → List ℕ → Told → List (List ℕ)
+all_told old word v =
+    one (codes "verdict") (decimal (cond old 1 2)) word (one (codes "job") (decimal v.job) word (one (codes "flags") (decimal v.flags) word
     (one (codes "literal") v.literal word (one (codes "partitions") (decimal v.parts) word (one (codes "split") (decimal v.split) word
-    (many (codes "input") (map note_told v.inputs) word (many (codes "output") (map note_told v.outputs) word
-    (many (codes "without") (map name_told v.left_out) word (one (codes "emitted") (decimal v.pairs) word [])))))))))
+    (many (codes "input") (map (range_told old) v.inputs) word (many (codes "output") (map note_told v.outputs) word
+    (many (codes "without") (map spot_told v.left_out) word (one (codes "emitted") (decimal v.pairs) word [])))))))))
 
 spread : (a b c d e f r : List ℕ) → (a ++ (b ++ (c ++ (d ++ (e ++ f))))) ++ r ≡ a ++ (b ++ (c ++ (d ++ (e ++ (f ++ r)))))
 spread a b c d e f r =
@@ -139,37 +163,41 @@ spread a b c d e f r =
 small-line : (n : ℕ) → n < 2 ^ 32 → Lacks 10 (decimal n)
 small-line n h = decimal-line n (omega (arith, h))
 
-module _ (word : List ℕ) (v : Told) (fits : Fits v) where
+version-line : (old : Bool) → Lacks 10 (decimal (cond old 1 2))
+version-line true = small-line 1 (omega arith)
+version-line false = small-line 2 (omega arith)
+
+module _ (old : Bool) (word : List ℕ) (v : Told) (fits : Fits old v) where
   under-last : told_under word (lines (number_line (codes "emitted") v.pairs)) ≡ one (codes "emitted") (decimal v.pairs) word []
   under-last =
       ap (λ (t : List ℕ). told_under word (lines t)) (sym (append-nil (number_line (codes "emitted") v.pairs)))
       ∙ under-line word (codes "emitted") (decimal v.pairs) [] (lacks-test 32 (codes "emitted") refl) (lacks-test 10 (codes "emitted") refl) (decimal-line v.pairs fits.pairs)
       ∙ ap (one (codes "emitted") (decimal v.pairs) word) (under-end word [] tt)
 
-  under-names : told_under word (lines (flat_map name_line v.left_out ++ number_line (codes "emitted") v.pairs))
-      ≡ many (codes "without") (map name_told v.left_out) word (one (codes "emitted") (decimal v.pairs) word [])
+  under-names : told_under word (lines (flat_map spot_line v.left_out ++ number_line (codes "emitted") v.pairs))
+      ≡ many (codes "without") (map spot_told v.left_out) word (one (codes "emitted") (decimal v.pairs) word [])
   under-names =
-      under-lines name_told word (codes "without") (number_line (codes "emitted") v.pairs) v.left_out (lacks-test 32 (codes "without") refl) (lacks-test 10 (codes "without") refl)
-      (all-lines NameFits name_told name-line v.left_out fits.left_out)
-      ∙ ap (many (codes "without") (map name_told v.left_out) word) under-last
+      under-lines spot_told word (codes "without") (number_line (codes "emitted") v.pairs) v.left_out (lacks-test 32 (codes "without") refl) (lacks-test 10 (codes "without") refl)
+      (all-lines SpotFits spot_told spot-line v.left_out fits.left_out)
+      ∙ ap (many (codes "without") (map spot_told v.left_out) word) under-last
 
-  under-outputs : told_under word (lines (flat_map (note_line (codes "output")) v.outputs ++ (flat_map name_line v.left_out ++ number_line (codes "emitted") v.pairs)))
-      ≡ many (codes "output") (map note_told v.outputs) word (many (codes "without") (map name_told v.left_out) word (one (codes "emitted") (decimal v.pairs) word []))
+  under-outputs : told_under word (lines (flat_map (note_line (codes "output")) v.outputs ++ (flat_map spot_line v.left_out ++ number_line (codes "emitted") v.pairs)))
+      ≡ many (codes "output") (map note_told v.outputs) word (many (codes "without") (map spot_told v.left_out) word (one (codes "emitted") (decimal v.pairs) word []))
   under-outputs =
-      under-lines note_told word (codes "output") (flat_map name_line v.left_out ++ number_line (codes "emitted") v.pairs) v.outputs
+      under-lines note_told word (codes "output") (flat_map spot_line v.left_out ++ number_line (codes "emitted") v.pairs) v.outputs
       (lacks-test 32 (codes "output") refl) (lacks-test 10 (codes "output") refl) (all-lines NoteFits note_told note-line v.outputs fits.outputs)
       ∙ ap (many (codes "output") (map note_told v.outputs) word) under-names
 
   abbrev files_text : List ℕ
-  files_text = flat_map (note_line (codes "input")) v.inputs ++ (flat_map (note_line (codes "output")) v.outputs ++ (flat_map name_line v.left_out ++ number_line (codes "emitted") v.pairs))
+  files_text = flat_map (range_line old) v.inputs ++ (flat_map (note_line (codes "output")) v.outputs ++ (flat_map spot_line v.left_out ++ number_line (codes "emitted") v.pairs))
 
   under-inputs : told_under word (lines files_text)
-      ≡ many (codes "input") (map note_told v.inputs) word (many (codes "output") (map note_told v.outputs) word
-      (many (codes "without") (map name_told v.left_out) word (one (codes "emitted") (decimal v.pairs) word [])))
+      ≡ many (codes "input") (map (range_told old) v.inputs) word (many (codes "output") (map note_told v.outputs) word
+      (many (codes "without") (map spot_told v.left_out) word (one (codes "emitted") (decimal v.pairs) word [])))
   under-inputs =
-      under-lines note_told word (codes "input") (flat_map (note_line (codes "output")) v.outputs ++ (flat_map name_line v.left_out ++ number_line (codes "emitted") v.pairs)) v.inputs
-      (lacks-test 32 (codes "input") refl) (lacks-test 10 (codes "input") refl) (all-lines NoteFits note_told note-line v.inputs fits.inputs)
-      ∙ ap (many (codes "input") (map note_told v.inputs) word) under-outputs
+      under-lines (range_told old) word (codes "input") (flat_map (note_line (codes "output")) v.outputs ++ (flat_map spot_line v.left_out ++ number_line (codes "emitted") v.pairs)) v.inputs
+      (lacks-test 32 (codes "input") refl) (lacks-test 10 (codes "input") refl) (all-lines (RangeFits old) (range_told old) (range-line old) v.inputs fits.inputs)
+      ∙ ap (many (codes "input") (map (range_told old) v.inputs) word) under-outputs
 
   abbrev split_text : List ℕ
   split_text = number_line (codes "split") v.split ++ files_text
@@ -186,13 +214,13 @@ module _ (word : List ℕ) (v : Told) (fits : Fits v) where
   abbrev job_text : List ℕ
   job_text = number_line (codes "job") v.job ++ flags_text
 
-  pub under-all : told_under word (lines (spelling v)) ≡ all_told word v
+  pub under-all : told_under word (lines (spelled old v)) ≡ all_told old word v
   under-all =
       ap (λ (t : List ℕ). told_under word (lines t))
-      (spread (number_line (codes "verdict") 1) (number_line (codes "job") v.job) (number_line (codes "flags") v.flags) (line_of (codes "literal") v.literal)
+      (spread (number_line (codes "verdict") (cond old 1 2)) (number_line (codes "job") v.job) (number_line (codes "flags") v.flags) (line_of (codes "literal") v.literal)
       (number_line (codes "partitions") v.parts) (number_line (codes "split") v.split) files_text)
-      ∙ under-line word (codes "verdict") (decimal 1) job_text (lacks-test 32 (codes "verdict") refl) (lacks-test 10 (codes "verdict") refl) (small-line 1 (omega arith))
-      ∙ ap (one (codes "verdict") (decimal 1) word)
+      ∙ under-line word (codes "verdict") (decimal (cond old 1 2)) job_text (lacks-test 32 (codes "verdict") refl) (lacks-test 10 (codes "verdict") refl) (version-line old)
+      ∙ ap (one (codes "verdict") (decimal (cond old 1 2)) word)
       (under-line word (codes "job") (decimal v.job) flags_text (lacks-test 32 (codes "job") refl) (lacks-test 10 (codes "job") refl) (small-line v.job fits.job)
       ∙ ap (one (codes "job") (decimal v.job) word)
       (under-line word (codes "flags") (decimal v.flags) literal_text (lacks-test 32 (codes "flags") refl) (lacks-test 10 (codes "flags") refl) (small-line v.flags fits.flags)

@@ -109,7 +109,7 @@ left_out-in (s ∷ ss) name e = by ((eqb s.split name.split) && (eqb s.rec name.
     by false is h rest = inr (rest h)
 
 -- the records that such names leave out have just these
-left_out-names : (size : ℕ) (files : List (List ℕ)) (skips : List RecordName) → 0 < size → Rises record_order skips → SkipsExist size files skips
+pub left_out-names : (size : ℕ) (files : List (List ℕ)) (skips : List RecordName) → 0 < size → Rises record_order skips → SkipsExist size files skips
     → map name_of (filter (λ (r : NamedRecord). is_left_out skips r.name) (named_records size files)) ≡ skips
 left_out-names size files skips some rises exist =
     let rs : List NamedRecord = named_records size files in

@@ -30,3 +30,17 @@ abbrev pub Stands : Bool → List RangeNote → ℕ → Type 0
 Stands partial notes i =
     (goes_on_at notes i ≡ false → (partial ≡ true → 0 < i) → (note_at notes i).from ≡ 0)
     × (goes_on_at notes (suc i) ≡ false → (partial ≡ true → suc i < length notes) → (note_at notes i).ends ≡ true)
+
+-- the input that the gap names
+abbrev pub gap_input : Gap → ℕ
+gap_input (NoBeginning i) = i
+gap_input (NoEnd i) = i
+
+-- a range that has no end has a beginning
+abbrev pub BeginsWell : Bool → List RangeNote → Gap → Type 0
+BeginsWell partial notes (NoBeginning i) = Unit {0}
+BeginsWell partial notes (NoEnd i) = goes_on_at notes i ≡ false → (partial ≡ true → 0 < i) → (note_at notes i).from ≡ 0
+
+-- no range before it has a gap, and of two gaps of its range it is the one in front
+abbrev pub IsFirstGap : Bool → List RangeNote → Gap → Type 0
+IsFirstGap partial notes g = IsGap partial notes g × ((k : ℕ) → k < gap_input g → Stands partial notes k) × BeginsWell partial notes g

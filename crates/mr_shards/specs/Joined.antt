@@ -1,65 +1,60 @@
 -- What the verdicts of shards are together, and of what that is true.
-use Rattle.std.specs.Prelude.{◌≡◌, ◌⊎◌, ℕ, ◌+◌, ◌-◌, ◌/◌, ◌<◌, ◌≤◌, ◌^◌, List, [], ◌∷◌, ◌++◌, length, map, take, slice_index_or}
+use Rattle.std.specs.Prelude.{◌≡◌, ℕ, zero, suc, ◌+◌, ◌<◌, ◌≤◌, ◌^◌, false, List, [], ◌∷◌, length, map, take, slice_index_or}
 use Rattle.std.specs.List.{AllByRecursion}
-use Rattle.mr_bytes.specs.declared.RecordName.{RecordName}
 use Rattle.mr_bytes.specs.Lists.{Distinct, Has}
 use Rattle.mr_input.specs.Files.{nth_file}
 use Rattle.mr_jobs.specs.JobSpec.{JobSpec, RequestSpec}
 use Rattle.mr_shards.specs.declared.merger.ShardText.{ShardText}
 use Rattle.mr_shards.specs.Merged.{texts}
-use Rattle.mr_shards.specs.Outputs.{IsOutputOfAll, parts_in}
+use Rattle.mr_shards.specs.Outputs.{parts_in}
 use Rattle.mr_shards.specs.declared.joining.JoinFault.{JoinFault}
-use Rattle.mr_shards.specs.declared.joining.JoinFault.TheVariants.{OtherRequest, TooManySplits, TooManyPairs, OutOfMemory}
-use Rattle.mr_shards.specs.Verdict.{Note, Told}
-use Rattle.mr_shards.specs.Portions.{merged_portions, past_files, past_shard}
-use Rattle.mr_shards.specs.Spots.{moved_name}
-use Rattle.mr_shards.specs.Truth.{AreNotesOf, Asks, IsTrueOf}
+use Rattle.mr_shards.specs.declared.joining.JoinFault.TheVariants.{OtherRequest, TooManyPairs, PlaceTooFar, OutOfMemory}
+use Rattle.mr_shards.specs.Gaps.{goes_on_at}
+use Rattle.mr_shards.specs.RangeNotes.{RangeNote, names_of}
+use Rattle.mr_shards.specs.RangeVerdicts.{all_ranges, left_out_in, pairs_in, ranges_of, shift_past}
+use Rattle.mr_shards.specs.Verdict.{Told}
+use Rattle.mr_shards.specs.Portions.{Shift, behind, merged_portions, no_shift, past_shard}
+use Rattle.mr_shards.specs.Spots.{Spot, shifted_spot}
+use Rattle.mr_shards.specs.Truth.{AreNotesOf, Asks, IsTrueOf, about}
 
--- the splits of a file of so many bytes, and of the files that notes tell of
-abbrev pub splits_in : ℕ → ℕ → ℕ
-splits_in size bytes = (bytes + size - 1) / size
+-- the inputs of all, one behind another, where the records of all begin that are left out, and the pairs of all
+abbrev pub inputs_of : List Told → List RangeNote
+inputs_of vs = ranges_of (map about vs)
 
-abbrev pub splits_told : ℕ → List Note → ℕ
-splits_told size [] = 0
-splits_told size (n ∷ ns) = splits_in size n.length + splits_told size ns
+abbrev pub left_out_of_all : List Told → List Spot
+left_out_of_all vs = left_out_in (map about vs)
 
--- the inputs of all, one behind another
-abbrev pub inputs_of : List Told → List Note
-inputs_of [] = []
-inputs_of (v ∷ vs) = v.inputs ++ inputs_of vs
-
--- the records left out of all, behind so many splits: split numbers go on from verdict to verdict
-abbrev pub left_out_from : ℕ → ℕ → List Told → List RecordName
-left_out_from size before [] = []
-left_out_from size before (v ∷ vs) = map (moved_name before) v.left_out ++ left_out_from size (before + splits_told size v.inputs) vs
-
--- the pairs of all
 abbrev pub pairs_of : List Told → ℕ
-pairs_of [] = 0
-pairs_of (v ∷ vs) = v.pairs + pairs_of vs
+pairs_of vs = pairs_in (map about vs)
 
--- its pairs and the bytes of each file can be counted in 64 bits, and so can its files
-pub record IsCounted (v : Told) : Type 0 where
-  pub pairs : v.pairs < 2 ^ 64
-  pub files : length v.inputs < 2 ^ 64
-  pub sizes : AllByRecursion (λ n. n.length < 2 ^ 64) v.inputs
+-- the range's end is a number of 64 bits
+abbrev pub IsNearRange : RangeNote → Type 0
+IsNearRange n = n.from + n.length < 2 ^ 64
+
+abbrev pub IsNearSpot : Spot → Type 0
+IsNearSpot s = (s.file < 2 ^ 32) × (s.start < 2 ^ 64)
+
+abbrev pub IsNearShift : Shift → Type 0
+IsNearShift s = (s.files < 2 ^ 64) × (s.bytes < 2 ^ 64)
 
 -- all are about the request, and together they are this one, without outputs
 pub record IsJoined (request : RequestSpec) (vs : List Told) (m : Told) : Type 0 where
   pub asks : Asks m request
   pub alike : AllByRecursion (λ v. Asks v request) vs
-  pub counted : AllByRecursion IsCounted vs
+  pub near : AllByRecursion (λ v. (length v.inputs < 2 ^ 64) × AllByRecursion IsNearRange v.inputs) vs
   pub inputs_are : m.inputs ≡ inputs_of vs
-  pub left_out_is : m.left_out ≡ left_out_from request.split 0 vs
+  pub left_out_is : m.left_out ≡ left_out_of_all vs
   pub pairs_are : m.pairs ≡ pairs_of vs
+  pub few : m.pairs < 2 ^ 64
 
--- no input has the name of another
-abbrev pub AreOnce : List Note → Type 0
-AreOnce notes = Distinct (map (λ n. n.name) notes)
+-- no file begins twice
+abbrev pub AreOnce : List RangeNote → Type 0
+AreOnce notes = Distinct (names_of notes)
 
--- the names of the inputs before that number differ, and one of them is the name of that number
-abbrev pub IsRepeated : List Note → ℕ → Type 0
-IsRepeated notes at = (at < length notes) × AreOnce (take at notes) × Has (map (λ n. n.name) (take at notes)) (slice_index_or (map (λ n. n.name) notes) at [])
+-- no file begins twice before the range of that number, which begins another file of an earlier one's name
+abbrev pub IsRepeated : List RangeNote → ℕ → Type 0
+IsRepeated notes at = (at < length notes) × (goes_on_at notes at ≡ false) × AreOnce (take at notes)
+    × Has (names_of (take at notes)) (slice_index_or (map (λ n. n.name) notes) at [])
 
 -- ---- refusals
 
@@ -69,64 +64,60 @@ no_verdict = record { job = 0; flags = 0; literal = []; parts = 0; split = 0; in
 abbrev pub verdict_at : List Told → ℕ → Told
 verdict_at vs i = slice_index_or vs i no_verdict
 
--- nothing is wrong with these: they are about the request, their splits and pairs fit in 64 bits, and the moved splits of
--- their left-out records in 32
-pub record GoTogether (request : RequestSpec) (vs : List Told) : Type 0 where
-  pub alike : AllByRecursion (λ v. Asks v request) vs
-  pub splits : splits_told request.split (inputs_of vs) < 2 ^ 64
-  pub pairs : pairs_of vs < 2 ^ 64
-  pub near : AllByRecursion (λ n. n.split < 2 ^ 32) (left_out_from request.split 0 vs)
+-- how far the places of the verdict of that number move
+abbrev pub shift_to : List Told → ℕ → Shift
+shift_to [] i = no_shift
+shift_to (v ∷ vs) zero = no_shift
+shift_to (v ∷ vs) (suc i) = behind (shift_past v.inputs (inputs_of vs)) (shift_to vs i)
 
--- the splits of the first verdicts don't fit in 64 bits; or their pairs do, and a left-out record's moved split doesn't in 32
-abbrev pub AreTooManySplits : ℕ → List Told → ℕ → Type 0
-AreTooManySplits size vs shard = (2 ^ 64 ≤ splits_told size (inputs_of (take (shard + 1) vs)))
-    ⊎ ((pairs_of (take (shard + 1) vs) < 2 ^ 64)
-    × ((name : RecordName) × Has (verdict_at vs shard).left_out name × (2 ^ 32 ≤ splits_told size (inputs_of (take shard vs)) + name.split)))
+-- the ends of its ranges and the moved places of its left-out records are numbers that fit, and so are places behind it
+pub record IsNear (vs : List Told) (i : ℕ) : Type 0 where
+  pub ranges : AllByRecursion IsNearRange (verdict_at vs i).inputs
+  pub spots : AllByRecursion IsNearSpot (map (shifted_spot (shift_to vs i)) (verdict_at vs i).left_out)
+  pub shift : IsNearShift (shift_to vs (i + 1))
 
--- the splits of the first verdicts fit in 64 bits, and their pairs don't
-abbrev pub AreTooManyPairs : ℕ → List Told → ℕ → Type 0
-AreTooManyPairs size vs shard = (splits_told size (inputs_of (take (shard + 1) vs)) < 2 ^ 64) × (2 ^ 64 ≤ pairs_of (take (shard + 1) vs))
+-- the verdict of that number goes in behind those before
+pub record GoesIn (request : RequestSpec) (vs : List Told) (i : ℕ) : Type 0 where
+  pub asks : Asks (verdict_at vs i) request
+  pub pairs : pairs_of (take (i + 1) vs) < 2 ^ 64
+  pub near : IsNear vs i
 
--- nothing is wrong with the verdicts before; this one is about another request, or splits or pairs don't fit with its own
+-- all verdicts before go in; this one is about another request, or the pairs are too many with its own, or its places too far
 abbrev pub IsJoinFault : RequestSpec → List Told → JoinFault → Type 0
-IsJoinFault request vs (OtherRequest shard) = (shard < length vs) × GoTogether request (take shard vs) × (Asks (verdict_at vs shard) request → ⊥)
-IsJoinFault request vs (TooManySplits shard) =
-    (shard < length vs) × GoTogether request (take shard vs) × Asks (verdict_at vs shard) request × AreTooManySplits request.split vs shard
+IsJoinFault request vs (OtherRequest shard) =
+    (shard < length vs) × ((i : ℕ) → i < shard → GoesIn request vs i) × (Asks (verdict_at vs shard) request → ⊥)
 IsJoinFault request vs TooManyPairs =
-    (shard : ℕ) × (shard < length vs) × GoTogether request (take shard vs) × Asks (verdict_at vs shard) request × AreTooManyPairs request.split vs shard
+    (shard : ℕ) × (shard < length vs) × ((i : ℕ) → i < shard → GoesIn request vs i) × Asks (verdict_at vs shard) request
+    × (2 ^ 64 ≤ pairs_of (take (shard + 1) vs))
+IsJoinFault request vs (PlaceTooFar shard) =
+    (shard < length vs) × ((i : ℕ) → i < shard → GoesIn request vs i) × Asks (verdict_at vs shard) request
+    × (pairs_of (take (shard + 1) vs) < 2 ^ 64) × (IsNear vs shard → ⊥)
 IsJoinFault request vs OutOfMemory = Unit {0}
 
 -- ---- what the joined verdict is true of
 
--- the files of all, one behind another
-abbrev pub all_files : List (List (List ℕ)) → List (List ℕ)
-all_files [] = []
-all_files (fs ∷ fss) = fs ++ all_files fss
-
--- each verdict is true of its files and its parts
+-- each verdict is true of its ranges and its parts
 abbrev pub AreTrueOf : RequestSpec → List Told → List (List (List ℕ)) → List (List (List ℕ)) → Type 0
 AreTrueOf request [] [] [] = Unit {0}
 AreTrueOf request (v ∷ vs) (fs ∷ fss) (ps ∷ pss) = IsTrueOf request v fs ps × AreTrueOf request vs fss pss
 AreTrueOf request _ _ _ = ⊥
 
--- what the shards have for a partition; the files of each are whole
+-- what the shards have for a partition, and how far the places behind each move
 abbrev pub AreOutputsAt : ℕ → List Told → List (List (List ℕ)) → List ShardText → Type 0
 AreOutputsAt p [] [] [] = Unit {0}
-AreOutputsAt p (v ∷ vs) (ps ∷ pss) (o ∷ os) = (past_shard o.files ≡ past_files (length v.inputs)) × (o.text.now ≡ nth_file ps p) × AreOutputsAt p vs pss os
+AreOutputsAt p (v ∷ vs) (ps ∷ pss) (o ∷ os) = (past_shard o.files ≡ shift_past v.inputs (inputs_of vs)) × (o.text.now ≡ nth_file ps p) × AreOutputsAt p vs pss os
 AreOutputsAt p _ _ _ = ⊥
 
--- the output of a partition is the text of the merged groups of the shards' outputs, and whatever judged shards those are
--- of, that of the sequential execution over all
+-- the output of a partition is the text of the merged groups of the shards' outputs
 abbrev pub IsMergedAt : JobSpec → List Told → List (List (List ℕ)) → ℕ → List ℕ → Type 0
 IsMergedAt job vs parts p output = (os : List ShardText) × AreOutputsAt p vs parts os × (output ≡ texts job (merged_portions (parts_in job os)))
-    × IsOutputOfAll job os output
 
 abbrev pub AreMerged : RequestSpec → List Told → List (List (List ℕ)) → List (List ℕ) → Type 0
 AreMerged request vs parts outputs = (p : ℕ) → p < request.parts → IsMergedAt request.job vs parts p (nth_file outputs p)
 
--- where each verdict is true of its files and parts, the joined one, with notes of the merged outputs, is true of all
--- files and of those
+-- where each verdict is true of its ranges and parts, the joined one, with notes of the merged outputs, is true of all
+-- ranges and of those
 abbrev pub JoinedIsTrue : Type 0
-JoinedIsTrue = (request : RequestSpec) (vs : List Told) (m : Told) (files parts : List (List (List ℕ))) (outputs : List (List ℕ))
+JoinedIsTrue = (request : RequestSpec) (vs : List Told) (m : Told) (ranges parts : List (List (List ℕ))) (outputs : List (List ℕ))
     → 0 < request.split → IsJoined request vs m → AreNotesOf m.outputs outputs → length outputs ≡ request.parts
-    → AreMerged request vs parts outputs → AreTrueOf request vs files parts → IsTrueOf request m (all_files files) outputs
+    → AreMerged request vs parts outputs → AreTrueOf request vs ranges parts → IsTrueOf request m (all_ranges ranges) outputs

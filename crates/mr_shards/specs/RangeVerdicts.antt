@@ -1,5 +1,5 @@
 -- Verdicts on portions, and what they are together.
-use Rattle.std.specs.Prelude.{◌≡◌, ℕ, ◌+◌, ◌<◌, ◌^◌, Bool, false, if◌then◌else◌, List, [], ◌∷◌, ◌++◌, length, map}
+use Rattle.std.specs.Prelude.{◌≡◌, ℕ, ◌+◌, ◌<◌, ◌^◌, Bool, false, if◌then◌else◌, List, [], ◌∷◌, ◌++◌, None, Some, length, map}
 use Rattle.std.specs.List.{AllByRecursion}
 use Rattle.sha2.specs.Sha256.{sha256}
 use Rattle.mr_bytes.specs.Lists.{Rises}
@@ -9,6 +9,7 @@ use Rattle.mr_input.specs.Files.{nth_file}
 use Rattle.mr_jobs.specs.JobSpec.{JobSpec, RequestSpec}
 use Rattle.mr_sequential.specs.Emitted.{emitted}
 use Rattle.mr_sequential.specs.Sequential.{sequential}
+use Rattle.mr_shards.specs.declared.shift.ShardFiles.{ShardFiles}
 use Rattle.mr_shards.specs.Merged.{texts}
 use Rattle.mr_shards.specs.RangeNotes.{EndAtLines, RangeNote, assembled, first_goes_on}
 use Rattle.mr_shards.specs.Portions.{Part, Shift, merged_portions, shift_behind}
@@ -47,6 +48,13 @@ last_number (l ∷ k ∷ ls) = last_number (k ∷ ls)
 abbrev pub ranges_of : List RangeVerdict → List RangeNote
 ranges_of [] = []
 ranges_of (v ∷ vs) = v.inputs ++ ranges_of vs
+
+-- the files of the first ranges, and where those behind go on with the last one, how many of its bytes come before
+abbrev pub files_of : List RangeNote → List RangeNote → ShardFiles
+files_of ms ns = record {
+  count = length (file_lengths ms);
+  cut = if last_goes_on ms ns then Some (last_number (file_lengths ms)) else None;
+}
 
 -- how far places are moved behind the first ranges
 abbrev pub shift_past : List RangeNote → List RangeNote → Shift

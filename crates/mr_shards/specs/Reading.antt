@@ -1,11 +1,14 @@
 -- How a verdict is read, and what it is to have a text.
-use Rattle.std.specs.Prelude.{◌≡◌, ℕ, ◌<◌, ◌^◌, if◌then◌else◌, List, [], ◌∷◌, ◌++◌, map, length, Option, None, Some}
+use Rattle.std.specs.Prelude.{◌≡◌, ℕ, ◌<◌, ◌^◌, Bool, true, false, if◌then◌else◌, List, [], ◌∷◌, ◌++◌, map, length, Option, None, Some}
 use Rattle.std.specs.List.{AllByRecursion}
 use Rattle.std.specs.Str.{bytes_eq}
 use Rattle.hex.specs.Hex.{IsBytes}
 use Rattle.mr_bytes.specs.Cut.{Lacks, cut}
-use Rattle.mr_bytes.specs.declared.RecordName.{RecordName}
-use Rattle.mr_shards.specs.Verdict.{Note, Told}
+use Rattle.mr_shards.specs.RangeNotes.{RangeNote}
+use Rattle.mr_shards.specs.Spots.{Spot}
+use Rattle.mr_shards.specs.Verdict.{Note, Told, spelled}
+use Rattle.mr_shards.specs.declared.verdict.VerdictFault.{VerdictFault}
+use Rattle.mr_shards.specs.declared.verdict.VerdictFault.TheVariants.{BadLine, OldVerdict, OutOfMemory}
 
 -- a note has the digest of a file, and a length of 64 bits
 pub record NoteFits (n : Note) : Type 0 where
@@ -14,20 +17,34 @@ pub record NoteFits (n : Note) : Type 0 where
   pub bytes : IsBytes n.digest
   pub clear : Lacks 10 n.name
 
-pub record NameFits (name : RecordName) : Type 0 where
-  pub split : name.split < 2 ^ 32
-  pub rec : name.rec < 2 ^ 32
+-- what an old text tells of a file: all of it is the range, and whether its last line is closed isn't known
+abbrev pub IsOldNote : RangeNote → Type 0
+IsOldNote n = (n.from ≡ 0) × (n.closed ≡ false) × (n.ends ≡ true)
+
+-- a range whose file goes on ends where a line ends
+pub record RangeFits (old : Bool) (n : RangeNote) : Type 0 where
+  pub few : n.length < 2 ^ 64
+  pub near : n.from < 2 ^ 64
+  pub whole : length n.digest ≡ 32
+  pub bytes : IsBytes n.digest
+  pub clear : Lacks 10 n.name
+  pub closed : n.ends ≡ false → n.closed ≡ true
+  pub all : old ≡ true → IsOldNote n
+
+pub record SpotFits (s : Spot) : Type 0 where
+  pub file : s.file < 2 ^ 32
+  pub start : s.start < 2 ^ 64
 
 -- numbers within their limits, and names that hold no line feed: such a verdict has a text that is read
-pub record Fits (v : Told) : Type 0 where
+pub record Fits (old : Bool) (v : Told) : Type 0 where
   pub job : v.job < 2 ^ 32
   pub flags : v.flags < 2 ^ 32
   pub literal : Lacks 10 v.literal
   pub parts : v.parts < 2 ^ 32
   pub split : v.split < 2 ^ 32
-  pub inputs : AllByRecursion NoteFits v.inputs
+  pub inputs : AllByRecursion (RangeFits old) v.inputs
   pub outputs : AllByRecursion NoteFits v.outputs
-  pub left_out : AllByRecursion NameFits v.left_out
+  pub left_out : AllByRecursion SpotFits v.left_out
   pub pairs : v.pairs < 2 ^ 64
 
 -- ---- what lines tell
@@ -57,3 +74,19 @@ Adds {X} tells fits (Some told) old new = (r : X) × (new ≡ old ++ r ∷ []) �
 -- what is found are those that the lines tell
 abbrev pub Finds : {X : Type 0} → (X → List ℕ) → (X → Type 0) → List (List ℕ) → List X → Type 0
 Finds {X} tells fits told found = (xs : List X) → AllByRecursion fits xs → told ≡ map tells xs → found ≡ xs
+
+-- ---- which texts are read
+
+-- the text is the old one of a verdict that leaves out no record
+abbrev pub IsOldText : Told → List ℕ → Type 0
+IsOldText v text = (text ≡ spelled true v) × (v.left_out ≡ []) × AllByRecursion IsOldNote v.inputs
+
+-- it is the text of no verdict that fits, in neither version
+abbrev pub IsNoText : List ℕ → Type 0
+IsNoText text = (old : Bool) (v : Told) → Fits old v → text ≡ spelled old v → ⊥
+
+-- an old text names left-out records by splits, and not by where they begin
+abbrev pub IsRefused : List ℕ → VerdictFault → Type 0
+IsRefused text (BadLine line) = IsNoText text
+IsRefused text OldVerdict = (v : Told) × (text ≡ spelled true v) × (0 < length v.left_out)
+IsRefused text OutOfMemory = Unit {0}

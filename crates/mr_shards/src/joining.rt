@@ -1,25 +1,26 @@
 //! Joins the verdicts of shards to that of the whole.
 //!
-//!     shard 0    inputs a b      3 splits    without 1:7         10 pairs
-//!     shard 1    inputs c        2 splits    without 0:2          4 pairs
-//!     whole      inputs a b c    5 splits    without 1:7 3:2     14 pairs
+//!     shard 0    a.log  0 .. 600 more                     without 0 120           10 pairs
+//!     shard 1    a.log  600 .. 650 end   b.log  0 .. 40   without 0 10   1 20      4 pairs
+//!     whole      all three ranges                         without 0 120  0 610  1 20    14 pairs
 //!
-//! A file's splits follow from its length, so no file is read. A shard is compared with the
-//! request, then its splits are counted, then its pairs, and then its records are moved: the first
-//! that fails is the fault. Two inputs of one name are found by a set (`first_repeat`).
+//! The spots of left-out records move by the shift of their shard (`shift.rt`), so no file is read.
+//! A shard is compared with the request, then its pairs are counted, and then its places are moved:
+//! the first that fails is the fault. A file that begins twice is found by a set (`first_repeat`).
 //! Cost: one pass over the verdicts; copies of their notes.
 //! Source: docs/FORMATS.md, "Shards that are merged".
-ghost use Rattle.std.specs.Prelude.{◌≡◌, ◌↔◌, ◌⊎◌, ℕ, ◌+◌, ◌<◌, ◌≤◌, ◌^◌, ◌++◌, List, [], ◌∷◌};
-ghost use Rattle.std.specs.Prelude.{true, false, IfErr, IfOk, IfSome, MatchOption, OnOk, map};
+ghost use Rattle.std.specs.Prelude.{◌≡◌, ◌↔◌, ◌⊎◌, ℕ, ◌+◌, ◌<◌, ◌^◌, ◌++◌, List, [], ◌∷◌};
+ghost use Rattle.std.specs.Prelude.{true, false, IfErr, IfOk, IsTrue, MatchOption, OnOk, map};
 ghost use Rattle.std.specs.List.{AllByRecursion};
 ghost use Rattle.mr_bytes.specs.Lists.{Has};
-ghost use Rattle.mr_shards.specs.Spots.{moved_name};
-ghost use Rattle.mr_shards.specs.Joined.{AreOnce, IsJoinFault, IsJoined, IsRepeated, JoinedIsTrue};
-ghost use Rattle.mr_shards.specs.Joined.{splits_in as split_number, splits_told};
-ghost use Rattle.mr_shards.specs.Joining.{Follows, IsShardFault, IsTooFar};
+ghost use Rattle.mr_shards.specs.Spots.{shifted_spot};
+ghost use Rattle.mr_shards.specs.Joined.{AreOnce, IsJoinFault, IsJoined, IsNearRange, IsNearSpot};
+ghost use Rattle.mr_shards.specs.Joined.{IsRepeated, JoinedIsTrue, inputs_of as all_inputs};
+ghost use Rattle.mr_shards.specs.Joining.{Fit, Follows, IsShardFault};
 
-use crate::verdict::{FileNote, Verdict, asks, verdict_for};
-use mr_bytes::RecordName;
+use crate::ranges::{FileRange, goes_on_at};
+use crate::shift::{Shift, Spot, behind, shift_past, shifted};
+use crate::verdict::{Verdict, asks, verdict_for};
 use mr_jobs::Request;
 use std::alloc::{AllocError, Global};
 use std::collections::BTreeSet;
@@ -31,12 +32,13 @@ pub enum JoinFault {
     /// The verdict is about another request.
     #[error("OtherRequest shard {shard}")]
     OtherRequest { shard: usize },
-    /// The split of a left-out record would not fit in 32 bits, or the count of splits in 64.
-    #[error("TooManySplits shard {shard}")]
-    TooManySplits { shard: usize },
     /// The sum of the pairs doesn't fit in 64 bits.
     #[error("TooManyPairs")]
     TooManyPairs,
+    /// A range of the verdict ends past 2^64, or the place of a left-out record, moved, doesn't fit:
+    /// its file's number in 32 bits, its offset in 64.
+    #[error("PlaceTooFar shard {shard}")]
+    PlaceTooFar { shard: usize },
     #[error("OutOfMemory")]
     OutOfMemory,
 }
@@ -51,49 +53,16 @@ impl From<AllocError> for JoinFault {
     }
 }
 
-fn splits_in(bytes: u64, size: u32) -> u64
-    requires { 0 < size }
-    ensures { result ≡ split_number size bytes }
+/// Whether the end of each range fits in 64 bits.
+fn are_near(ranges: &[FileRange]) -> bool
+    ensures { IsTrue result ↔ AllByRecursion IsNearRange ranges.now }
 {
-    let size = size as u64;
-    if bytes == 0 {
-        0
-    } else {
-        (bytes - 1) / size + 1
+    for range in ranges {
+        if range.from.checked_add(range.length).is_none() {
+            return false;
+        }
     }
-}
-
-/// `before` and the splits of the noted files; none if that doesn't fit in 64 bits.
-fn splits_behind(notes: &[FileNote], size: u32, before: u64) -> Option<u64>
-    requires { 0 < size }
-    ensures count { MatchOption result (2 ^ 64 ≤ before + splits_told size notes.now)
-        (λ n. n ≡ before + splits_told size notes.now) }
-    ensures sizes { IfSome result (λ _. AllByRecursion (λ n. n.length < 2 ^ 64) notes.now) }
-{
-    let mut splits = before;
-    for note in notes {
-        splits = match splits.checked_add(splits_in(note.length, size)) {
-            Some(more) => more,
-            None => return None,
-        };
-    }
-    Some(splits)
-}
-
-/// The record's name, moved by so many splits; none if its split doesn't fit in 32 bits.
-fn moved(name: RecordName, splits: u64) -> Option<RecordName>
-    ensures { MatchOption result (2 ^ 32 ≤ splits + name.split) (λ n. n ≡ moved_name splits name) }
-{
-    let Some(split) = splits.checked_add(name.split as u64) else {
-        return None;
-    };
-    match u32::try_from(split) {
-        Ok(split) => Some(RecordName {
-            split,
-            rec: name.rec,
-        }),
-        Err(_) => None,
-    }
+    true
 }
 
 #[derive(Clone, Copy, Drop)]
@@ -102,93 +71,112 @@ enum Unmoved {
     OutOfMemory,
 }
 
-fn add_name(names: &mut Vec<RecordName>, name: RecordName, splits: u64) -> Result<(), Unmoved>
-    ensures ok { OnOk result (names.new.items ≡ names.old.items ++ moved_name splits name ∷ []) }
-    ensures near { OnOk result ((moved_name splits name).split < 2 ^ 32) }
-    ensures far { result ≡ Err Unmoved.TooFar → 2 ^ 32 ≤ splits + name.split }
+fn add_spot(spots: &mut Vec<Spot>, spot: &Spot, shift: Shift) -> Result<(), Unmoved>
+    ensures ok { OnOk result (spots.new.items ≡ spots.old.items ++ shifted_spot shift spot.now ∷ []) }
+    ensures near { OnOk result (IsNearSpot (shifted_spot shift spot.now)) }
+    ensures far { result ≡ Err Unmoved.TooFar → IsNearSpot (shifted_spot shift spot.now) → ⊥ }
 {
-    let Some(name) = moved(name, splits) else {
+    let Some(spot) = shifted(&shift, spot) else {
         return Err(Unmoved::TooFar);
     };
-    match names.push(name) {
+    match spots.push(spot) {
         Ok(()) => Ok(()),
         Err(_) => Err(Unmoved::OutOfMemory),
     }
 }
 
-fn add_names(names: &mut Vec<RecordName>, more: &[RecordName], splits: u64) -> Result<(), Unmoved>
-    ensures ok { OnOk result (names.new.items ≡ names.old.items ++ map (moved_name splits) more.now) }
-    ensures near { OnOk result (AllByRecursion (λ n. n.split < 2 ^ 32) (map (moved_name splits) more.now)) }
-    ensures far { result ≡ Err Unmoved.TooFar → IsTooFar splits more.now }
+fn add_spots(spots: &mut Vec<Spot>, more: &[Spot], shift: Shift) -> Result<(), Unmoved>
+    ensures ok { OnOk result (spots.new.items ≡ spots.old.items ++ map (shifted_spot shift) more.now) }
+    ensures near { OnOk result (AllByRecursion IsNearSpot (map (shifted_spot shift) more.now)) }
+    ensures far { result ≡ Err Unmoved.TooFar → AllByRecursion IsNearSpot (map (shifted_spot shift) more.now) → ⊥ }
 {
-    for name in more {
-        add_name(names, *name, splits)?;
+    for spot in more {
+        add_spot(spots, spot, shift)?;
     }
     Ok(())
 }
 
-fn copy_of(alloc: Global, note: &FileNote) -> Result<FileNote, AllocError>
-    ensures { IfOk result (λ n. n ≡ note.now) }
+fn copy_of(alloc: Global, range: &FileRange) -> Result<FileRange, AllocError>
+    ensures { IfOk result (λ n. n ≡ range.now) }
 {
-    Ok(FileNote {
-        name: Vec::from_slice(alloc, note.name.as_slice())?,
-        length: note.length,
-        digest: note.digest,
+    Ok(FileRange {
+        name: Vec::from_slice(alloc, range.name.as_slice())?,
+        from: range.from,
+        length: range.length,
+        digest: range.digest,
+        closed: range.closed,
+        ends: range.ends,
     })
 }
 
-fn add_notes(alloc: Global, notes: &mut Vec<FileNote>, more: &[FileNote]) -> Result<(), AllocError>
-    ensures { OnOk result (notes.new.items ≡ notes.old.items ++ more.now) }
+fn add_ranges(alloc: Global, all: &mut Vec<FileRange>, more: &[FileRange]) -> Result<(), AllocError>
+    ensures { OnOk result (all.new.items ≡ all.old.items ++ more.now) }
 {
-    for note in more {
-        let copy = copy_of(alloc, note)?;
-        notes.push(copy).map_err(AllocError::from)?;
+    for range in more {
+        let copy = copy_of(alloc, range)?;
+        all.push(copy).map_err(AllocError::from)?;
     }
     Ok(())
 }
 
-/// The verdicts joined so far, and the number of their splits.
+/// The inputs of all verdicts, one behind another.
+fn inputs_of(alloc: Global, verdicts: &[Verdict]) -> Result<Vec<FileRange>, AllocError>
+    ensures { IfOk result (λ ns. ns.items ≡ all_inputs verdicts.now) }
+{
+    let mut inputs = Vec::new(alloc);
+    for verdict in verdicts {
+        add_ranges(alloc, &mut inputs, verdict.inputs.as_slice())?;
+    }
+    Ok(inputs)
+}
+
+/// The verdicts joined so far, without inputs, and how far the places of the next one move.
 #[derive(Drop)]
 struct Joined {
     verdict: Verdict,
-    splits: u64,
+    past: Shift,
 }
 
-/// Joins a shard's verdict to those before it.
+/// Joins a shard's verdict to those before it. `rest` are the inputs of those behind it.
 fn add_verdict(
-    alloc: Global,
     request: &Request,
     joined: &mut Joined,
     shard: usize,
     verdict: &Verdict,
+    rest: &[FileRange],
 ) -> Result<(), JoinFault>
     ensures ok { OnOk result (Follows request.now joined.old.verdict joined.new.verdict verdict.now
-        joined.old.splits joined.new.splits) }
-    ensures err { IfErr result (IsShardFault request.now joined.old.verdict verdict.now shard joined.old.splits) }
+        joined.old.past joined.new.past rest.now) }
+    ensures err { IfErr result (IsShardFault request.now joined.old.verdict verdict.now shard
+        joined.old.past rest.now) }
 {
     if !asks(verdict, request) {
         return Err(JoinFault::OtherRequest { shard });
     }
-    let (inputs, left_out) = (verdict.inputs.as_slice(), verdict.left_out.as_slice());
-    let Some(splits) = splits_behind(inputs, request.split_size(), joined.splits) else {
-        return Err(JoinFault::TooManySplits { shard });
-    };
     let Some(pairs) = joined.verdict.pairs.checked_add(verdict.pairs) else {
         return Err(JoinFault::TooManyPairs);
     };
-    match add_names(&mut joined.verdict.left_out, left_out, joined.splits) {
+    let far = JoinFault::PlaceTooFar { shard };
+    let (inputs, left_out) = (verdict.inputs.as_slice(), verdict.left_out.as_slice());
+    let _count = inputs.len();
+    if !are_near(inputs) {
+        return Err(far);
+    }
+    match add_spots(&mut joined.verdict.left_out, left_out, joined.past) {
         Ok(()) => {}
-        Err(Unmoved::TooFar) => return Err(JoinFault::TooManySplits { shard }),
+        Err(Unmoved::TooFar) => return Err(far),
         Err(Unmoved::OutOfMemory) => return Err(JoinFault::OutOfMemory),
     }
-    add_notes(alloc, &mut joined.verdict.inputs, inputs)?;
+    let Some(past) = behind(joined.past, shift_past(inputs, rest)) else {
+        return Err(far);
+    };
     joined.verdict.pairs = pairs;
-    joined.splits = splits;
+    joined.past = past;
     Ok(())
 }
 
-/// Joins the shards' verdicts in order: appends inputs, moves split numbers of left-out records by
-/// the splits of the shards before, adds pairs. It leaves the outputs empty.
+/// Joins the shards' verdicts in order: appends inputs, moves the spots of left-out records by what
+/// is before, adds pairs. It leaves the outputs empty.
 pub fn join_verdicts(
     alloc: Global,
     request: &Request,
@@ -197,12 +185,21 @@ pub fn join_verdicts(
     ensures ok { IfOk result (IsJoined request.now verdicts.now) }
     ensures err { IfErr result (IsJoinFault request.now verdicts.now) }
 {
-    let verdict = verdict_for(alloc, request, &[], 0)?;
-    let mut joined = Joined { verdict, splits: 0 };
-    for (shard, verdict) in verdicts.iter().enumerate() {
-        add_verdict(alloc, request, &mut joined, shard, verdict)?;
+    let inputs = inputs_of(alloc, verdicts)?;
+    let verdict = verdict_for(alloc, request, 0)?;
+    let past = Shift { files: 0, bytes: 0 };
+    let mut joined = Joined { verdict, past };
+    let mut rest = inputs.as_slice();
+    for shard in 0..verdicts.len() {
+        let verdict = &verdicts[shard];
+        let (_, later) = rest.split_at(verdict.inputs.as_slice().len());
+        add_verdict(request, &mut joined, shard, verdict, later)?;
+        rest = later;
     }
-    Ok(joined.verdict)
+    Ok(Verdict {
+        inputs,
+        ..joined.verdict
+    })
 }
 
 /// Adds a name to those seen; returns whether it is new.
@@ -218,20 +215,21 @@ fn see<'a>(seen: &mut BTreeSet<&'a [u8]>, name: &'a [u8]) -> Result<bool, AllocE
     }
 }
 
-/// The number of the first input whose name an earlier input has.
-pub fn first_repeat(alloc: Global, notes: &[FileNote]) -> Result<Option<usize>, AllocError>
-    ensures { IfOk result (λ r. MatchOption r (AreOnce notes.now) (IsRepeated notes.now)) }
+/// The number of the first range that begins another file of an earlier one's name.
+pub fn first_repeat(alloc: Global, ranges: &[FileRange]) -> Result<Option<usize>, AllocError>
+    ensures { IfOk result (λ r. MatchOption r (AreOnce ranges.now) (IsRepeated ranges.now)) }
 {
     let mut seen = BTreeSet::new(alloc);
-    for (at, note) in notes.iter().enumerate() {
-        if !see(&mut seen, note.name.as_slice())? {
+    for at in 0..ranges.len() {
+        let range = &ranges[at];
+        if !goes_on_at(ranges, at) && !see(&mut seen, range.name.as_slice())? {
             return Ok(Some(at));
         }
     }
     Ok(None)
 }
 
-/// If each verdict is true of its files and parts, the joined one is true of all.
+/// If each verdict is true of its ranges and parts, the joined one is true of all.
 pub fn joined_law()
     ensures { JoinedIsTrue }
 {}

@@ -1,7 +1,8 @@
-//! Shards: lists of an input's files are judged apart; their outputs merge to those of the whole.
-//! An index can't be merged: its lines name several files; a merged line has one total or place.
+//! Shards: stretches of an input's files are judged apart; their outputs merge to the whole's.
+//! A shard may begin and end inside a file, at a line end (`ranges.rt`).
 //! Verdicts: what a judge accepted, as text for others; the verdicts of shards join to one.
-//! Shards may be cut within a file, at a line end (`ranges.rt`). The laws hold for an index too.
+//! An index can't be merged: its lines name several files; a merged line has one total or place.
+//! The laws hold for an index too.
 #![tactic(auto)]
 
 mod cursor;
@@ -14,10 +15,11 @@ mod portions;
 mod ranges;
 mod reading;
 mod shift;
+mod spots;
 mod verdict;
 mod window;
 
-ghost use Rattle.mr_shards.specs.Judged.{GoodIsJudged};
+ghost use Rattle.mr_shards.specs.Judged.{GoodIsJudged, StretchIsTrue};
 ghost use Rattle.mr_shards.specs.Lines.{OneReading};
 ghost use Rattle.mr_shards.specs.Laws.{OneText};
 
@@ -28,10 +30,11 @@ pub use merger::{MergeFault, Merger, ShardText, merge_parts};
 pub use portions::{left_out_law, lines_law, portions_law, worked_law};
 pub use ranges::{FileRange, Gap, first_gap, goes_on, ranges_law, tile_law};
 pub use reading::read_verdict;
-pub use shift::{ShardFiles, Shift, Spot, shift_past, shifted};
+pub use shift::{ShardFiles, Shift, Spot, shard_files, shifted};
+pub use spots::spots_for;
 pub use verdict::{
-    FileNote, Verdict, VerdictFault, asks, is_note_of, note_for, request_of, verdict_for,
-    write_verdict,
+    FileNote, Verdict, VerdictFault, asks, is_note_of, note_for, range_for, ranges_for, request_of,
+    verdict_for, write_verdict,
 };
 pub use window::Window;
 
@@ -41,8 +44,10 @@ pub fn reading_law()
 {}
 
 /// A good result over files within an input's limits is one of a shard whose outputs can be merged.
+/// The verdict on a good result over a stretch of files is true of it.
 pub fn judged_law()
-    ensures { GoodIsJudged }
+    ensures shard { GoodIsJudged }
+    ensures stretch { StretchIsTrue }
 {}
 
 /// Verdicts within their fields' ranges that have the same text are equal.

@@ -7,7 +7,8 @@
 //! not at the file's beginning. Ranges tile files if each one that doesn't go on begins its file,
 //! and each one that the next doesn't go on with ends its file. Cost: one pass over the ranges.
 ghost use Rattle.std.specs.Prelude.{◌≡◌, ◌<◌, MatchOption, length};
-ghost use Rattle.mr_shards.specs.Gaps.{IsGap, Stands, goes_on_at as is_going_on_at};
+ghost use Rattle.mr_shards.specs.Gaps.{BeginsWell, IsFirstGap, IsGap, Stands, gap_input};
+ghost use Rattle.mr_shards.specs.Gaps.{goes_on_at as is_going_on_at};
 ghost use Rattle.mr_shards.specs.RangeNotes.{TileFiles, TilesAreFiles, goes_on as do_go_on};
 ghost use Rattle.mr_shards.specs.RangeVerdicts.{JoinedIsTrueOfRanges, RangesAreFiles};
 
@@ -77,9 +78,10 @@ pub fn goes_on(first: &FileRange, second: &FileRange) -> bool
 }
 
 /// The first gap between ranges that should tile files, each from its beginning to its end. Of
-/// partial ranges the first one may begin inside its file, and the last one may end there.
+/// partial ranges the first one may begin inside its file, and the last one may end there. Of two
+/// gaps of a range it reports `NoBeginning`.
 pub fn first_gap(ranges: &[FileRange], partial: bool) -> Option<Gap>
-    ensures { MatchOption result (TileFiles partial ranges.now) (IsGap partial ranges.now) }
+    ensures { MatchOption result (TileFiles partial ranges.now) (IsFirstGap partial ranges.now) }
 {
     for at in 0..ranges.len() {
         if let Some(gap) = gap_at(ranges, at, partial) {
@@ -92,7 +94,8 @@ pub fn first_gap(ranges: &[FileRange], partial: bool) -> Option<Gap>
 /// The gap in front of the range with that number, or behind it.
 fn gap_at(ranges: &[FileRange], at: usize, partial: bool) -> Option<Gap>
     requires { at < length ranges.now }
-    ensures { MatchOption result (Stands partial ranges.now at) (IsGap partial ranges.now) }
+    ensures { MatchOption result (Stands partial ranges.now at)
+        (λ g. IsGap partial ranges.now g × (gap_input g ≡ at) × BeginsWell partial ranges.now g) }
 {
     let range = &ranges[at];
     let is_first = partial && at == 0;

@@ -5,23 +5,29 @@
 //!
 //! Finding checks nothing: a value that is missing or malformed becomes another, such as 0, and
 //! then the two texts differ. So one comparison replaces a grammar, and no rule of the text is
-//! written twice. A refusal reports the first line in which the texts differ.
+//! written twice. A refusal reports the first line in which the texts differ. Texts of version 1
+//! are read too, if they leave out no record: their inputs are whole files.
 //! Cost: a fixed number of passes over the text, and the memory of its values and of a second text.
 //! Source: docs/FORMATS.md, "The verdict".
 ghost use Rattle.std.specs.Prelude.{◌≡◌, ◌⊎◌, ℕ, ◌<◌, ◌^◌, List, [], ◌∷◌, ◌++◌, IfErr, IfOk};
 ghost use Rattle.std.specs.Prelude.{IsTrue, MatchOption, None, Some, OnOk, codes, decimal, map};
+ghost use Rattle.std.specs.Prelude.{Bool, false, true};
 ghost use Rattle.std.specs.List.{AllByRecursion};
 ghost use Rattle.mr_bytes.specs.Cut.{Lacks};
-ghost use Rattle.mr_bytes.specs.declared.RecordName.{RecordName as Named};
 ghost use Rattle.mr_shards.specs.Lines.{lines};
-ghost use Rattle.mr_shards.specs.Reading.{Fits, NameFits, NoteFits, told_of, told_under, Adds};
-ghost use Rattle.mr_shards.specs.Reading.{Finds};
-ghost use Rattle.mr_shards.specs.Verdict.{Note, Told, name_told, note_told, spelling};
+ghost use Rattle.mr_shards.specs.RangeNotes.{RangeNote};
+ghost use Rattle.mr_shards.specs.Reading.{Fits, NoteFits, RangeFits, SpotFits, told_of, told_under};
+ghost use Rattle.mr_shards.specs.Reading.{Adds, Finds, IsOldNote, IsOldText, IsRefused};
+ghost use Rattle.mr_shards.specs.Spots.{Spot as Beginning};
+ghost use Rattle.mr_shards.specs.Verdict.{Note, Told, note_told, place_told, range_told, spelled};
+ghost use Rattle.mr_shards.specs.Verdict.{spelling, spot_told};
 
 use crate::line::number_of;
-use crate::verdict::{FileNote, Verdict, VerdictFault, write_verdict};
+use crate::ranges::FileRange;
+use crate::shift::Spot;
+use crate::verdict::{FileNote, Verdict, VerdictFault, text_of};
 use hex::decode_to_slice;
-use mr_bytes::{RecordName, cut};
+use mr_bytes::cut;
 use mr_lanes::first_difference;
 use std::alloc::{AllocError, Global};
 
@@ -92,26 +98,108 @@ fn note_of(alloc: Global, told: &[u8]) -> Result<FileNote, AllocError>
     })
 }
 
-fn name_of(told: &[u8]) -> RecordName
-    ensures { (n : Named) → NameFits n → told.now ≡ name_told n → result ≡ n }
+/// Where a range begins, how it ends, and the name of its file.
+#[derive(Clone, Copy)]
+struct RangePlace<'a> {
+    from: u64,
+    closed: bool,
+    ends: bool,
+    name: &'a [u8],
+}
+
+fn place_of<'a>(old: bool, told: &'a [u8]) -> RangePlace<'a>
+    ensures place { (n : RangeNote) → RangeFits old n → told.entry.now ≡ place_told old n
+        → (result.from ≡ n.from) × (result.closed ≡ n.closed) × (result.ends ≡ n.ends)
+        × (result.name.now ≡ n.name) }
+    ensures all { old ≡ true → (result.from ≡ 0) × (result.closed ≡ false) × (result.ends ≡ true) }
 {
-    let (split, rec) = parted(told);
-    RecordName {
-        split: small_or_zero(split),
-        rec: small_or_zero(rec),
+    if old {
+        return RangePlace {
+            from: 0,
+            closed: false,
+            ends: true,
+            name: told,
+        };
+    }
+    let (from, rest) = parted(told);
+    let (ending, name) = parted(rest);
+    RangePlace {
+        from: number_or_zero(from),
+        closed: ending != b"open".as_slice(),
+        ends: ending != b"more".as_slice(),
+        name,
     }
 }
 
-/// Adds the file of a line, if the line has this word.
-fn add_note(
-    alloc: Global,
-    notes: &mut Vec<FileNote>,
-    line: &[u8],
-    word: &[u8],
-) -> Result<(), AllocError>
-    ensures { OnOk result (Adds note_told NoteFits (told_of word.now line.now) notes.old.items notes.new.items) }
+fn range_of(alloc: Global, old: bool, told: &[u8]) -> Result<FileRange, AllocError>
+    ensures range { IfOk result (λ r. (n : RangeNote) → RangeFits old n → told.now ≡ range_told old n → r ≡ n) }
+    ensures all { IfOk result (λ r. old ≡ true → IsOldNote r) }
 {
-    let Some(told) = behind(line, word) else {
+    let (digits, rest) = parted(told);
+    let (length, rest) = parted(rest);
+    let place = place_of(old, rest);
+    let mut digest = [0u8; 32];
+    let _ = decode_to_slice(digits, &mut digest);
+    Ok(FileRange {
+        name: Vec::from_slice(alloc, place.name)?,
+        from: place.from,
+        length: number_or_zero(length),
+        digest,
+        closed: place.closed,
+        ends: place.ends,
+    })
+}
+
+fn spot_of(told: &[u8]) -> Spot
+    ensures { (s : Beginning) → SpotFits s → told.now ≡ spot_told s → result ≡ s }
+{
+    let (file, start) = parted(told);
+    Spot {
+        file: small_or_zero(file),
+        start: number_or_zero(start),
+    }
+}
+
+/// Adds the range of a line, if the line tells one.
+fn add_range(
+    alloc: Global,
+    old: bool,
+    ranges: &mut Vec<FileRange>,
+    line: &[u8],
+) -> Result<(), AllocError>
+    ensures range { OnOk result (Adds (range_told old) (RangeFits old)
+        (told_of (codes "input") line.now) ranges.old.items ranges.new.items) }
+    ensures all { OnOk result (old ≡ true → AllByRecursion IsOldNote ranges.old.items
+        → AllByRecursion IsOldNote ranges.new.items) }
+{
+    let Some(told) = behind(line, b"input") else {
+        return Ok(());
+    };
+    let range = range_of(alloc, old, told)?;
+    ranges.push(range).map_err(AllocError::from)?;
+    Ok(())
+}
+
+fn ranges_in(alloc: Global, old: bool, text: &[u8]) -> Result<Vec<FileRange>, AllocError>
+    ensures ranges { IfOk result (λ v. Finds (range_told old) (RangeFits old)
+        (told_under (codes "input") (lines text.now)) v.items) }
+    ensures all { IfOk result (λ v. old ≡ true → AllByRecursion IsOldNote v.items) }
+{
+    let mut ranges = Vec::new(alloc);
+    let mut rest = text;
+    while let Some((line, more)) = cut(rest, b'\n') {
+        add_range(alloc, old, &mut ranges, line)?;
+        rest = more;
+    }
+    Ok(ranges)
+}
+
+/// Adds the part of a line, if the line tells one.
+fn add_note(alloc: Global, notes: &mut Vec<FileNote>, line: &[u8]) -> Result<(), AllocError>
+    ensures { OnOk result (Adds note_told NoteFits
+        (told_of (codes "output") line.now) notes.old.items notes.new.items) }
+{
+    let Some(told) = behind(line, b"output") else {
         return Ok(());
     };
     let note = note_of(alloc, told)?;
@@ -119,50 +207,58 @@ fn add_note(
     Ok(())
 }
 
-fn notes_under(alloc: Global, text: &[u8], word: &[u8]) -> Result<Vec<FileNote>, AllocError>
-    ensures { IfOk result (λ v. Finds note_told NoteFits (told_under word.now (lines text.now)) v.items) }
+fn notes_in(alloc: Global, text: &[u8]) -> Result<Vec<FileNote>, AllocError>
+    ensures { IfOk result (λ v. Finds note_told NoteFits (told_under (codes "output") (lines text.now)) v.items) }
 {
     let mut notes = Vec::new(alloc);
     let mut rest = text;
     while let Some((line, more)) = cut(rest, b'\n') {
-        add_note(alloc, &mut notes, line, word)?;
+        add_note(alloc, &mut notes, line)?;
         rest = more;
     }
     Ok(notes)
 }
 
-/// Adds the record of a line, if the line names one left out.
-fn add_name(names: &mut Vec<RecordName>, line: &[u8]) -> Result<(), AllocError>
-    ensures { OnOk result (Adds name_told NameFits
-        (told_of (codes "without") line.now) names.old.items names.new.items) }
+/// Adds the spot of a line, if the line tells where a record begins that is left out.
+fn add_spot(spots: &mut Vec<Spot>, line: &[u8]) -> Result<(), AllocError>
+    ensures { OnOk result (Adds spot_told SpotFits
+        (told_of (codes "without") line.now) spots.old.items spots.new.items) }
 {
     let Some(told) = behind(line, b"without") else {
         return Ok(());
     };
-    names.push(name_of(told)).map_err(AllocError::from)?;
+    spots.push(spot_of(told)).map_err(AllocError::from)?;
     Ok(())
 }
 
-fn names_under(alloc: Global, text: &[u8]) -> Result<Vec<RecordName>, AllocError>
-    ensures { IfOk result (λ v. Finds name_told NameFits (told_under (codes "without") (lines text.now)) v.items) }
+fn spots_in(alloc: Global, text: &[u8]) -> Result<Vec<Spot>, AllocError>
+    ensures { IfOk result (λ v. Finds spot_told SpotFits (told_under (codes "without") (lines text.now)) v.items) }
 {
-    let mut names = Vec::new(alloc);
+    let mut spots = Vec::new(alloc);
     let mut rest = text;
     while let Some((line, more)) = cut(rest, b'\n') {
-        add_name(&mut names, line)?;
+        add_spot(&mut spots, line)?;
         rest = more;
     }
-    Ok(names)
+    Ok(spots)
+}
+
+/// Whether the text says that it is of version 1.
+fn is_old(text: &[u8]) -> bool
+    ensures { (old : Bool) (v : Told) → Fits old v → text.now ≡ spelled old v → result ≡ old }
+{
+    number_or_zero(first_told(text, b"verdict")) == 1
 }
 
 /// Finds each value by its word; it checks nothing.
-fn told_verdict(alloc: Global, text: &[u8]) -> Result<Verdict, AllocError>
-    ensures { IfOk result (λ r. (v : Told) → Fits v → text.now ≡ spelling v → r ≡ v) }
+fn told_verdict(alloc: Global, old: bool, text: &[u8]) -> Result<Verdict, AllocError>
+    ensures verdict { IfOk result (λ r. (v : Told) → Fits old v → text.now ≡ spelled old v → r ≡ v) }
+    ensures all { IfOk result (λ r. old ≡ true → AllByRecursion IsOldNote r.inputs) }
 {
     let literal = Vec::from_slice(alloc, first_told(text, b"literal"))?;
-    let inputs = notes_under(alloc, text, b"input")?;
-    let outputs = notes_under(alloc, text, b"output")?;
-    let left_out = names_under(alloc, text)?;
+    let inputs = ranges_in(alloc, old, text)?;
+    let outputs = notes_in(alloc, text)?;
+    let left_out = spots_in(alloc, text)?;
     Ok(Verdict {
         job: small_or_zero(first_told(text, b"job")),
         flags: small_or_zero(first_told(text, b"flags")),
@@ -197,19 +293,22 @@ fn parting_line(bytes: &[u8], spelled: &[u8]) -> u64 {
     }
 }
 
-/// Parses the text of a verdict. It refuses exactly the texts of no verdict.
+/// Parses the text of a verdict. It refuses exactly the texts of no verdict, and old ones that name
+/// left-out records.
 pub fn read_verdict(alloc: Global, bytes: &[u8]) -> Result<Verdict, VerdictFault>
-    ensures ok { IfOk result (λ v. bytes.now ≡ spelling v) }
-    ensures err { IfErr result
-        (λ e. (e ≡ VerdictFault.OutOfMemory) ⊎ ((v : Told) → Fits v → bytes.now ≡ spelling v → ⊥)) }
+    ensures ok { IfOk result (λ v. (bytes.now ≡ spelling v) ⊎ IsOldText v bytes.now) }
+    ensures err { IfErr result (IsRefused bytes.now) }
 {
-    let verdict = told_verdict(alloc, bytes)?;
-    let spelled = write_verdict(alloc, &verdict)?;
-    if spelled.as_slice() == bytes {
-        Ok(verdict)
-    } else {
-        Err(VerdictFault::BadLine {
+    let old = is_old(bytes);
+    let verdict = told_verdict(alloc, old, bytes)?;
+    let spelled = text_of(alloc, old, &verdict)?;
+    if spelled.as_slice() != bytes {
+        return Err(VerdictFault::BadLine {
             line: parting_line(bytes, spelled.as_slice()),
-        })
+        });
     }
+    if old && !verdict.left_out.as_slice().is_empty() {
+        return Err(VerdictFault::OldVerdict);
+    }
+    Ok(verdict)
 }

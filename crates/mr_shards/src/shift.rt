@@ -5,13 +5,16 @@
 //!     b.log  600 .. 650 end       the second: its file 0 is file 1 of both, and byte 0 there is
 //!     c.log  0 .. 40  open        byte 600; its file 1 is file 2, with the same offsets
 //!
-//! File numbers move by the files before, where a file that is cut counts once. In the first file of
-//! a portion that goes on, offsets move by the bytes of the file before it. Lines of grep and spots
-//! of left-out records move alike. Cost: one pass over the ranges, from the last to the first.
+//! File numbers move by the files before, where a file that is cut counts once. In the first file
+//! of a portion that goes on, offsets move by the bytes of the file before it. Lines of grep and
+//! spots of left-out records move alike. Cost: one pass over the ranges, from the last one on.
 ghost use Rattle.std.specs.Prelude.{◌≡◌, ℕ, ◌+◌, ◌<◌, ◌≤◌, ◌==◌, ◌^◌, ◌⊎◌, MatchOption, true, false};
 ghost use Rattle.std.specs.Prelude.{if◌then◌else◌, length};
-ghost use Rattle.mr_shards.specs.RangeVerdicts.{end_of, last_goes_on, shift_past as do_shift_past};
-ghost use Rattle.mr_shards.specs.Portions.{past_shard, shifted_start as moved_start};
+ghost use Rattle.mr_shards.specs.RangeVerdicts.{end_of, file_lengths, files_of, last_goes_on};
+ghost use Rattle.mr_shards.specs.RangeVerdicts.{last_number, shift_past as do_shift_past};
+ghost use Rattle.mr_shards.specs.Joined.{IsNearShift};
+ghost use Rattle.mr_shards.specs.Portions.{behind as both, past_shard};
+ghost use Rattle.mr_shards.specs.Portions.{shifted_start as moved_start};
 ghost use Rattle.mr_shards.specs.Spots.{shifted_spot};
 ghost use Rattle.mr_shards.specs.Gaps.{goes_on_at as is_going_on_at, note_at};
 
@@ -66,6 +69,22 @@ impl Model for Spot {
     ghost view = { λ s. record { file = s.file; start = s.start } };
 }
 
+/// The files that the ranges make up, if the ranges behind come next.
+pub fn shard_files(ranges: &[FileRange], behind: &[FileRange]) -> ShardFiles
+    requires { length ranges.now < 2 ^ 32 }
+    ensures { result ≡ files_of ranges.now behind.now }
+{
+    let Counted { files, begin } = count_files(ranges);
+    let count = files as u32;
+    match end_of_cut(ranges, behind) {
+        Some(end) => ShardFiles {
+            count,
+            cut: Some(end - begin),
+        },
+        None => ShardFiles { count, cut: None },
+    }
+}
+
 /// The spot, moved; none if its file doesn't fit in 32 bits or its offset in 64.
 pub fn shifted(shift: &Shift, spot: &Spot) -> Option<Spot>
     ensures { MatchOption result
@@ -100,9 +119,41 @@ pub(crate) fn shifted_start(shift: &Shift, file: u64, start: u64) -> Option<u64>
     Some(start)
 }
 
+/// One shift behind another; none if a number of it doesn't fit in 64 bits.
+pub(crate) fn behind(first: Shift, second: Shift) -> Option<Shift>
+    ensures { MatchOption result (IsNearShift (both first second) → ⊥)
+        (λ s. (s ≡ both first second) × IsNearShift s) }
+{
+    let bytes = shifted_start(&first, second.files, second.bytes)?;
+    let files = first.files.checked_add(second.files)?;
+    Some(Shift { files, bytes })
+}
+
 /// The shift of what is behind the ranges.
-pub fn shift_past(ranges: &[FileRange], behind: &[FileRange]) -> Shift
+pub(crate) fn shift_past(ranges: &[FileRange], behind: &[FileRange]) -> Shift
     ensures { result ≡ do_shift_past ranges.now behind.now }
+{
+    let Counted { files, begin } = count_files(ranges);
+    match end_of_cut(ranges, behind) {
+        Some(end) => Shift {
+            files: files - 1,
+            bytes: end - begin,
+        },
+        None => Shift { files, bytes: 0 },
+    }
+}
+
+/// How many files ranges make up, and where in its file the first range of the last one begins.
+#[derive(Clone, Copy)]
+struct Counted {
+    files: u64,
+    begin: u64,
+}
+
+fn count_files(ranges: &[FileRange]) -> Counted
+    ensures count { result.files ≡ length (file_lengths ranges.now) }
+    ensures begin { 0 < result.files
+        → result.begin + last_number (file_lengths ranges.now) ≡ end_of ranges.now }
 {
     let mut at = ranges.len();
     let mut files = 0;
@@ -112,13 +163,7 @@ pub fn shift_past(ranges: &[FileRange], behind: &[FileRange]) -> Shift
         files = files_with(ranges, at, files);
         begin = begin_with(ranges, at, files, begin);
     }
-    match end_of_cut(ranges, behind) {
-        Some(end) => Shift {
-            files: files - 1,
-            bytes: end - begin,
-        },
-        None => Shift { files, bytes: 0 },
-    }
+    Counted { files, begin }
 }
 
 /// The files from that range on, if there are so many from the next one on.

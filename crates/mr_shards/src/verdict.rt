@@ -1,30 +1,33 @@
 //! A verdict: what a judge accepted, as a value and as a text for others to read.
 //!
-//!     verdict 1                      input SHA-256 LENGTH NAME      one for each file
-//!     job, flags, literal            output SHA-256 LENGTH NAME     one for each part
-//!     partitions, split              without SPLIT RECORD           one for each left-out record
-//!                                    emitted PAIRS
+//!     verdict 2               input SHA-256 LENGTH FROM more|end|open NAME    for each range
+//!     job, flags, literal     output SHA-256 LENGTH NAME                      for each part
+//!     partitions, split       without FILE OFFSET                    for each left-out record
+//!                             emitted PAIRS
 //!
-//! It names the job by number, flags and literal, as a certificate does. It names the records that
-//! are left out, and not how many a request allows. A name goes to the end of its line, so it has
-//! no line feed, and each verdict has one text. `request_of` makes the request, if its outputs can
-//! be merged.
+//! It names the job by number, flags and literal, as a certificate does. It tells where the records
+//! begin that are left out, and not how many a request allows. A name goes to the end of its line,
+//! so it has no line feed, and each verdict has one text. Old texts, of version 1, tell a file by
+//! `input SHA-256 LENGTH NAME`. `request_of` makes the request, if its outputs can be merged.
 //! Cost: linear in the text; a note reads the bytes of its file once.
 //! Source: docs/FORMATS.md, "The verdict".
 ghost use Rattle.std.specs.Prelude.{◌≡◌, ◌↔◌, IfOk, IfSome, IsTrue, MatchOption, ℕ, [], ◌∷◌, ◌++◌};
-ghost use Rattle.std.specs.Prelude.{OnOk, decimal};
+ghost use Rattle.std.specs.Prelude.{◌==◌, OnOk, decimal, if◌then◌else◌, map};
 ghost use Rattle.mr_bytes.specs.declared.By.{By};
 ghost use Rattle.mr_jobs.specs.JobSpec.{RequestSpec, Resources};
 ghost use Rattle.mr_shards.specs.Lines.{CanMerge};
 ghost use Rattle.mr_shards.specs.Truth.{Asks, AsksNone, CanBeMade, NamesJob, by_told, IsNoteOf};
-ghost use Rattle.mr_shards.specs.Truth.{note_for, verdict_for};
+ghost use Rattle.mr_shards.specs.Truth.{ends_line, note_for, range_for, ranges_for, verdict_for};
 ghost use Rattle.std.specs.List.{flat_map};
 ghost use Rattle.hex.specs.Hex.{encode_lower};
-ghost use Rattle.mr_shards.specs.Verdict.{line_of, note_line, name_line, request_lines, spelling};
+ghost use Rattle.mr_shards.specs.Verdict.{ending, line_of, note_line, place_told, range_line};
+ghost use Rattle.mr_shards.specs.Verdict.{request_lines, spelled, spelling, spot_line};
 
+use crate::ranges::FileRange;
+use crate::shift::Spot;
 use hex::encode_to_slice;
 use itoa::Buffer;
-use mr_bytes::RecordName;
+use mr_input::Input;
 use mr_jobs::{Job, JobFault, Request};
 use sha2::{Digest, Sha256};
 use std::alloc::{AllocError, Global};
@@ -48,7 +51,8 @@ impl Model for FileNote {
 }
 
 /// What a judge accepted. `job` is the job's number; `flags` and `literal` are as in a certificate;
-/// `split` is in bytes; `pairs` counts the pairs of all records but those left out.
+/// `split` is in bytes; `left_out` tells where the records begin that are left out, by the number of
+/// the file, where one that is cut counts once; `pairs` counts the pairs of all other records.
 #[derive(Debug, Drop)]
 pub struct Verdict {
     pub job: u32,
@@ -56,9 +60,9 @@ pub struct Verdict {
     pub literal: Vec<u8>,
     pub parts: u32,
     pub split: u32,
-    pub inputs: Vec<FileNote>,
+    pub inputs: Vec<FileRange>,
     pub outputs: Vec<FileNote>,
-    pub left_out: Vec<RecordName>,
+    pub left_out: Vec<Spot>,
     pub pairs: u64,
 }
 
@@ -86,6 +90,9 @@ pub enum VerdictFault {
     /// the verdict that its lines give.
     #[error("BadLine {line}")]
     BadLine { line: u64 },
+    /// The text is of version 1, and names left-out records by their splits.
+    #[error("OldVerdict")]
+    OldVerdict,
     #[error("OutOfMemory")]
     OutOfMemory,
 }
@@ -177,6 +184,68 @@ pub fn note_for(alloc: Global, name: &[u8], bytes: &[u8]) -> Result<FileNote, Al
     })
 }
 
+/// Whether the bytes are empty or end a line.
+fn ends_line(bytes: &[u8]) -> bool
+    ensures { result ≡ ends_line bytes.now }
+{
+    bytes.is_empty() || bytes[bytes.len() - 1] == b'\n'
+}
+
+/// The note of bytes that begin at `from` in the file of that name. `ends`: the file ends there.
+pub fn range_for(
+    alloc: Global,
+    name: &[u8],
+    from: u64,
+    bytes: &[u8],
+    ends: bool,
+) -> Result<FileRange, AllocError>
+    ensures { IfOk result (λ n. n ≡ range_for name.now from bytes.now ends) }
+{
+    Ok(FileRange {
+        name: Vec::from_slice(alloc, name)?,
+        from,
+        length: bytes.len() as u64,
+        digest: Sha256::digest(bytes),
+        closed: ends_line(bytes),
+        ends,
+    })
+}
+
+/// The notes of a stretch of files by their names: the first file begins at `from`, and `ends` says
+/// whether the last one ends with the stretch.
+pub fn ranges_for(
+    alloc: Global,
+    names: &[&str],
+    from: u64,
+    input: &Input,
+    ends: bool,
+) -> Result<Vec<FileRange>, AllocError>
+    ensures { IfOk result (λ notes. notes.items
+        ≡ ranges_for (map (λ s. s.now) names.now) from input.now ends) }
+{
+    let mut notes = Vec::new(alloc);
+    for file in 0..names.len().min(input.files()) {
+        let (name, bytes) = (names[file].as_bytes(), input.file(file));
+        let whole = ends || file + 1 < names.len();
+        let note = range_for(alloc, name, begin_of(file, from), bytes, whole)?;
+        add_range(&mut notes, note)?;
+    }
+    Ok(notes)
+}
+
+/// Where a file of a stretch begins; only the first one may begin inside.
+fn begin_of(file: usize, from: u64) -> u64
+    ensures { result ≡ (if file == 0 then from else 0) }
+{
+    if file == 0 { from } else { 0 }
+}
+
+fn add_range(notes: &mut Vec<FileRange>, note: FileRange) -> Result<(), AllocError>
+    ensures { OnOk result (notes.new.items ≡ notes.old.items ++ note ∷ []) }
+{
+    notes.push(note).map_err(AllocError::from)
+}
+
 /// Whether length and digest fit the bytes, whatever the name.
 pub fn is_note_of(note: &FileNote, bytes: &[u8]) -> bool
     ensures { IsTrue result ↔ IsNoteOf note.now bytes.now }
@@ -188,14 +257,9 @@ pub fn is_note_of(note: &FileNote, bytes: &[u8]) -> bool
     digest.as_slice() == note.digest.as_slice()
 }
 
-/// The verdict for a request, without notes of files.
-pub fn verdict_for(
-    alloc: Global,
-    request: &Request,
-    left_out: &[RecordName],
-    pairs: u64,
-) -> Result<Verdict, AllocError>
-    ensures { IfOk result (λ v. v ≡ verdict_for request.now [] [] left_out.now pairs) }
+/// The verdict for a request, without notes of files and with no record left out.
+pub fn verdict_for(alloc: Global, request: &Request, pairs: u64) -> Result<Verdict, AllocError>
+    ensures { IfOk result (λ v. v ≡ verdict_for request.now [] [] [] pairs) }
 {
     let job = request.job();
     Ok(Verdict {
@@ -206,7 +270,7 @@ pub fn verdict_for(
         split: request.split_size(),
         inputs: Vec::new(alloc),
         outputs: Vec::new(alloc),
-        left_out: Vec::from_slice(alloc, left_out)?,
+        left_out: Vec::new(alloc),
         pairs,
     })
 }
@@ -264,33 +328,86 @@ fn put_notes(word: &[u8], notes: &[FileNote], out: &mut Vec<u8>) -> Result<(), A
     Ok(())
 }
 
-/// `without SPLIT RECORD`.
-fn put_name(name: RecordName, out: &mut Vec<u8>) -> Result<(), AllocError>
-    ensures { OnOk result (out.new.items ≡ out.old.items ++ name_line name) }
+/// How a range ends.
+fn ending(range: &FileRange) -> &'static [u8]
+    ensures { result.now ≡ ending range.now }
 {
-    let mut split = Buffer::new();
-    let mut rec = Buffer::new();
-    out.extend_from_slice(b"without ")?;
-    put_line(
-        split.format(name.split).as_bytes(),
-        rec.format(name.rec).as_bytes(),
-        out,
-    )
+    if !range.ends {
+        return b"more";
+    }
+    if range.closed { b"end" } else { b"open" }
 }
 
-fn put_names(names: &[RecordName], out: &mut Vec<u8>) -> Result<(), AllocError>
-    ensures { OnOk result (out.new.items ≡ out.old.items ++ flat_map name_line names.now) }
+/// `FROM ENDING NAME`, or of an old text `NAME`, and a line feed.
+fn put_place(old: bool, range: &FileRange, out: &mut Vec<u8>) -> Result<(), AllocError>
+    ensures { OnOk result (out.new.items ≡ out.old.items ++ place_told old range.now ++ 10 ∷ []) }
 {
-    for name in names {
-        put_name(*name, out)?;
+    if !old {
+        let mut digits = Buffer::new();
+        out.extend_from_slice(digits.format(range.from).as_bytes())?;
+        out.push(b' ')?;
+        out.extend_from_slice(ending(range))?;
+        out.push(b' ')?;
+    }
+    out.extend_from_slice(range.name.as_slice())?;
+    out.push(b'\n')?;
+    Ok(())
+}
+
+/// `input DIGEST LENGTH FROM ENDING NAME`, or of an old text `input DIGEST LENGTH NAME`.
+fn put_range(old: bool, range: &FileRange, out: &mut Vec<u8>) -> Result<(), AllocError>
+    ensures { OnOk result (out.new.items ≡ out.old.items ++ range_line old range.now) }
+{
+    let mut digits = Buffer::new();
+    out.extend_from_slice(b"input ")?;
+    put_digest(&range.digest, out)?;
+    out.extend_from_slice(digits.format(range.length).as_bytes())?;
+    out.push(b' ')?;
+    put_place(old, range, out)
+}
+
+fn put_ranges(old: bool, ranges: &[FileRange], out: &mut Vec<u8>) -> Result<(), AllocError>
+    ensures { OnOk result (out.new.items ≡ out.old.items ++ flat_map (range_line old) ranges.now) }
+{
+    for range in ranges {
+        put_range(old, range, out)?;
     }
     Ok(())
 }
 
-fn put_request(verdict: &Verdict, out: &mut Vec<u8>) -> Result<(), AllocError>
-    ensures { OnOk result (out.new.items ≡ out.old.items ++ request_lines verdict.now) }
+/// `without FILE OFFSET`.
+fn put_spot(spot: &Spot, out: &mut Vec<u8>) -> Result<(), AllocError>
+    ensures { OnOk result (out.new.items ≡ out.old.items ++ spot_line spot.now) }
 {
-    put_number(b"verdict", 1, out)?;
+    let mut file = Buffer::new();
+    let mut start = Buffer::new();
+    out.extend_from_slice(b"without ")?;
+    put_line(
+        file.format(spot.file).as_bytes(),
+        start.format(spot.start).as_bytes(),
+        out,
+    )
+}
+
+fn put_spots(spots: &[Spot], out: &mut Vec<u8>) -> Result<(), AllocError>
+    ensures { OnOk result (out.new.items ≡ out.old.items ++ flat_map spot_line spots.now) }
+{
+    for spot in spots {
+        put_spot(spot, out)?;
+    }
+    Ok(())
+}
+
+fn version_of(old: bool) -> u64
+    ensures { result ≡ (if old then 1 else 2) }
+{
+    if old { 1 } else { 2 }
+}
+
+fn put_request(old: bool, verdict: &Verdict, out: &mut Vec<u8>) -> Result<(), AllocError>
+    ensures { OnOk result (out.new.items ≡ out.old.items ++ request_lines old verdict.now) }
+{
+    put_number(b"verdict", version_of(old), out)?;
     put_number(b"job", verdict.job as u64, out)?;
     put_number(b"flags", verdict.flags as u64, out)?;
     put_line(b"literal", verdict.literal.as_slice(), out)?;
@@ -302,11 +419,18 @@ fn put_request(verdict: &Verdict, out: &mut Vec<u8>) -> Result<(), AllocError>
 pub fn write_verdict(alloc: Global, verdict: &Verdict) -> Result<Vec<u8>, AllocError>
     ensures { IfOk result (λ out. out.items ≡ spelling verdict.now) }
 {
+    text_of(alloc, false, verdict)
+}
+
+/// The text of a verdict, or the old one, of version 1.
+pub(crate) fn text_of(alloc: Global, old: bool, verdict: &Verdict) -> Result<Vec<u8>, AllocError>
+    ensures { IfOk result (λ out. out.items ≡ spelled old verdict.now) }
+{
     let mut out = Vec::new(alloc);
-    put_request(verdict, &mut out)?;
-    put_notes(b"input", verdict.inputs.as_slice(), &mut out)?;
+    put_request(old, verdict, &mut out)?;
+    put_ranges(old, verdict.inputs.as_slice(), &mut out)?;
     put_notes(b"output", verdict.outputs.as_slice(), &mut out)?;
-    put_names(verdict.left_out.as_slice(), &mut out)?;
+    put_spots(verdict.left_out.as_slice(), &mut out)?;
     put_number(b"emitted", verdict.pairs, &mut out)?;
     Ok(out)
 }

@@ -16,7 +16,7 @@ pub returns-in_err-input-clause-refused : goal.returns-in_err-input-clause-refus
 returns-in_err-input-clause-refused g c =
     let p = err_from_is_err_and c.from_residual-in_err-input.result c.from_residual-in_err-input.ensures.1 in
     let o = c.args.asked.now in
-    let a = asked o.options c.in_ok-request.request c.in_ok-request.ensures.other c.in_ok-request.ensures.within in
+    let a = asked o.options c.in_ok-request.request c.in_ok-request.ensures.other c.in_ok-request.ensures.within c.in_ok-request.ensures.range in
     rw p.1 (rw p.2 (work_input_stage (g.S.Store.holds c.args.store.now) (g.S.Store.unreadable c.args.store.now) (g.S.Store.known_as c.args.store.now) o c.in_ok-skips.skips.items c.in_ok-request.request c.in_err-input.field-0.0 c.in_ok-request.ensures.request a c.in_ok-skips.ensures.ok c.in_err-input.ensures.refused))
 
 pub returns-clause-work : goal.returns-clause-work
@@ -46,7 +46,7 @@ returns-clause-refused g c =
     let request = c.in_ok-request.request in
     let files = c.in_ok-input.input in
     let skips = c.as_slice.result.now in
-    let a = asked o.options c.in_ok-request.request c.in_ok-request.ensures.other c.in_ok-request.ensures.within in
+    let a = asked o.options c.in_ok-request.request c.in_ok-request.ensures.other c.in_ok-request.ensures.within c.in_ok-request.ensures.range in
     IfErr-weaker c.run_request.result (λ e. IsRunRefusal request files skips e) (λ e. IsWorkRefusal holds unreadable known o e)
     (λ e h. work_run_stage holds unreadable known o skips files request e c.in_ok-request.ensures.request a (rw c.as_slice.ensures.value c.in_ok-skips.ensures.ok) c.in_ok-input.ensures.input c.in_ok-input.ensures.apart h)
     c.run_request.ensures.refused

@@ -15,5 +15,5 @@ returns-in_err-joined-clause-refused g c =
     let holds = g.S.Store.holds in
     let e = c.in_err-joined.field-0.0 in
     let refused = subst (λ (names : List (List ℕ)). IsShardRefusal (holds c.args.store.now) (holds c.merge_shards.new.store) (g.S.Store.unreadable c.args.store.now)
-    (g.S.Store.unwritable c.args.store.now) (g.S.Store.alike c.args.store.now) (g.S.Store.known_as c.args.store.now) names (option_map (λ s. s.now) c.args.asked.now.inputs) c.args.asked.now.out.now e) (ap (map (λ s. s.now)) c.as_slice.ensures.value) c.in_err-joined.ensures.refused in
+    (g.S.Store.unwritable c.args.store.now) (g.S.Store.alike c.args.store.now) (g.S.Store.known_as c.args.store.now) names (option_map (λ s. s.now) c.args.asked.now.inputs) c.args.asked.now.out.now c.args.asked.now.partial e) (ap (map (λ s. s.now)) c.as_slice.ensures.value) c.in_err-joined.ensures.refused in
     rw p.1 (e, p.2, refused)

@@ -6,12 +6,18 @@ use Rattle.mr_commands.proofs.JudgingRefused.{asked}
 use Rattle.mr_commands.proofs.Kept.{script_stage, input_stage, scratch_stage, runs}
 use Rattle.mr_commands.proofs.running.test_and_run.Goals as goal
 
+pub returns-in_err-expect_crew-clause-refused : goal.returns-in_err-expect_crew-clause-refused
+returns-in_err-expect_crew-clause-refused g c =
+    let p = err_from_is_err_and c.from_residual-in_err-expect_crew.result c.from_residual-in_err-expect_crew.ensures.1 in
+    let job = asked c.args.asked.now.options c.in_ok-request.request c.in_ok-request.ensures.other c.in_ok-request.ensures.within c.in_ok-request.ensures.range in
+    rw p.1 (rw p.2 (inr (inl (job, c.in_err-expect_crew.ensures.refused))))
+
 pub returns-in_err-script-clause-refused : goal.returns-in_err-script-clause-refused
 returns-in_err-script-clause-refused g c =
     let p = err_from_is_err_and c.from_residual-in_err-script.result c.from_residual-in_err-script.ensures.1 in
     let o = c.args.asked.now in
     let good : AreGood o = record {
-      job = asked o.options c.in_ok-request.request c.in_ok-request.ensures.other c.in_ok-request.ensures.within;
+      job = asked o.options c.in_ok-request.request c.in_ok-request.ensures.other c.in_ok-request.ensures.within c.in_ok-request.ensures.range;
       workers = c.in_ok-expect_crew.ensures.workers;
       attempts = c.in_ok-expect_crew.ensures.attempts;
     } in
@@ -22,7 +28,7 @@ returns-in_err-input-clause-refused g c =
     let p = err_from_is_err_and c.from_residual-in_err-input.result c.from_residual-in_err-input.ensures.1 in
     let o = c.args.asked.now in
     let good : AreGood o = record {
-      job = asked o.options c.in_ok-request.request c.in_ok-request.ensures.other c.in_ok-request.ensures.within;
+      job = asked o.options c.in_ok-request.request c.in_ok-request.ensures.other c.in_ok-request.ensures.within c.in_ok-request.ensures.range;
       workers = c.in_ok-expect_crew.ensures.workers;
       attempts = c.in_ok-expect_crew.ensures.attempts;
     } in
@@ -50,7 +56,7 @@ returns-in_err-expect_scratch_apart-clause-refused g c =
     let p = err_from_is_err_and c.from_residual-in_err-expect_scratch_apart.result c.from_residual-in_err-expect_scratch_apart.ensures.1 in
     let o = c.args.asked.now in
     let good : AreGood o = record {
-      job = asked o.options c.in_ok-request.request c.in_ok-request.ensures.other c.in_ok-request.ensures.within;
+      job = asked o.options c.in_ok-request.request c.in_ok-request.ensures.other c.in_ok-request.ensures.within c.in_ok-request.ensures.range;
       workers = c.in_ok-expect_crew.ensures.workers;
       attempts = c.in_ok-expect_crew.ensures.attempts;
     } in
@@ -66,7 +72,7 @@ returns-clause-refused g c =
     let known = g.S.Store.known_as c.args.store.now in
     let o = c.args.asked.now in
     let good : AreGood o = record {
-      job = asked o.options c.in_ok-request.request c.in_ok-request.ensures.other c.in_ok-request.ensures.within;
+      job = asked o.options c.in_ok-request.request c.in_ok-request.ensures.other c.in_ok-request.ensures.within c.in_ok-request.ensures.range;
       workers = c.in_ok-expect_crew.ensures.workers;
       attempts = c.in_ok-expect_crew.ensures.attempts;
     } in

@@ -1,17 +1,24 @@
-use Rattle.std.proofs.Common.{◌≡◌, ◌∙◌, ap, inl, inr, length, map, option_map, refl, subst, sym}
+use Rattle.std.proofs.Common.{◌∙◌, ap, inl, inr, map, option_map, subst, sym}
 use Rattle.std.proofs.lemmas.List.{length-map}
 use Rattle.std.proofs.lemmas.Result.{err_from_is_err_and}
 use Rattle.mr_files.specs.Holding.{Begins}
 use Rattle.mr_files.specs.Names.{name_of_verdict}
-use Rattle.mr_shards.specs.Verdict.{spelling}
-use Rattle.mr_shard_files.proofs.PartLemmas.{held_count}
+use Rattle.mr_shards.specs.Verdict.{Told, spelling}
+use Rattle.mr_shard_files.proofs.PartLemmas.{heard_count}
 use Rattle.mr_shard_files.proofs.ResultLemmas.{among_again, named, parts_change, unnamed}
 use Rattle.mr_shard_files.proofs.merging.merge_verdicts.Goals as goal
+
+pub list_files-requires-clause-all : goal.list_files-requires-clause-all
+list_files-requires-clause-all g c =
+    c.as_slice.ensures.value ∙ ap (λ (m : Told). m.inputs) c.joined.view_is ∙ c.in_ok-request.ensures.ok.all.joined.inputs_are
 
 pub partitions_written-requires-clause-count : goal.partitions_written-requires-clause-count
 partitions_written-requires-clause-count g c =
     let names = c.args.plan.now.names.now in
-    sym (length-map names (λ s. s.now)) ∙ held_count (g.S.Store.holds c.args.store.now) (map (λ s. s.now) names) (map spelling c.args.verdicts.now) c.requires ∙ length-map c.args.verdicts.now spelling
+    sym (length-map names (λ s. s.now)) ∙ heard_count (g.S.Store.holds c.args.store.now) (map (λ s. s.now) names) c.args.verdicts.now c.requires
+
+pub partitions_written-requires-clause-files : goal.partitions_written-requires-clause-files
+partitions_written-requires-clause-files g c = c.as_slice-files.ensures.value ∙ c.in_ok-files.ensures
 
 pub returns-in_err-notes-clause-others : goal.returns-in_err-notes-clause-others
 returns-in_err-notes-clause-others g c =
@@ -50,23 +57,19 @@ returns-in_err-save_verdict-clause-refused g c =
     let holds = g.S.Store.holds in
     let names = map (λ s. s.now) c.args.plan.now.names.now in
     let list = option_map (λ n. n.now) c.args.plan.now.list in
-    let vs = c.args.verdicts.now in
     let dir = c.args.plan.now.out.now in
-    let same : length names ≡ length vs = held_count (holds c.args.store.now) names (map spelling vs) c.requires ∙ length-map vs spelling in
     let mid = holds c.partitions_written.new.store in
     let new = holds c.save_verdict.new.store in
-    rw p.1 (rw p.2 (inr (unnamed (holds c.args.store.now) mid new (g.S.Store.known_as c.args.store.now) names list dir vs vs c.in_ok-request.request c.in_ok-request.joined c.in_ok-notes.notes.items (g.S.Store.unreadable c.args.store.now) (g.S.Store.unwritable c.args.store.now) (g.S.Store.unwritable c.partitions_written.new.store) c.in_err-save_verdict.field-0.0
-    refl c.requires same c.in_ok-request.ensures.ok c.in_ok-notes.ensures.ok c.in_err-save_verdict.ensures.others (subst (λ v. Begins mid new (name_of_verdict dir) (spelling v)) c.add_notes-merged.ensures c.in_err-save_verdict.ensures.begins) c.in_ok-notes.ensures.still c.in_err-save_verdict.ensures.err)))
+    rw p.1 (rw p.2 (inr (unnamed (holds c.args.store.now) mid new (g.S.Store.known_as c.args.store.now) names list dir c.args.plan.now.partial c.args.verdicts.now c.in_ok-request.request c.in_ok-request.joined c.in_ok-notes.notes.items (g.S.Store.unreadable c.args.store.now) (g.S.Store.unwritable c.args.store.now) (g.S.Store.unwritable c.partitions_written.new.store) c.in_err-save_verdict.field-0.0
+    c.requires c.in_ok-request.ensures.ok c.in_ok-notes.ensures.ok c.in_err-save_verdict.ensures.others (subst (λ v. Begins mid new (name_of_verdict dir) (spelling v)) c.add_notes-merged.ensures c.in_err-save_verdict.ensures.begins) c.in_ok-notes.ensures.still c.in_err-save_verdict.ensures.err)))
 
 pub returns-clause-ok : goal.returns-clause-ok
 returns-clause-ok g c =
     let holds = g.S.Store.holds in
     let names = map (λ s. s.now) c.args.plan.now.names.now in
     let list = option_map (λ n. n.now) c.args.plan.now.list in
-    let vs = c.args.verdicts.now in
     let dir = c.args.plan.now.out.now in
-    let same : length names ≡ length vs = held_count (holds c.args.store.now) names (map spelling vs) c.requires ∙ length-map vs spelling in
     let mid = holds c.partitions_written.new.store in
     let new = holds c.save_verdict.new.store in
-    rw c.add_notes-merged.ensures (named (holds c.args.store.now) mid new (g.S.Store.known_as c.args.store.now) names list dir vs vs c.in_ok-request.request c.in_ok-request.joined c.in_ok-notes.notes.items (spelling c.add_notes-merged.result)
-    refl (ap spelling c.add_notes-merged.ensures) c.requires same c.in_ok-request.ensures.ok c.in_ok-notes.ensures.ok c.in_ok-save_verdict.ensures.others c.in_ok-save_verdict.ensures.whole)
+    rw c.add_notes-merged.ensures (named (holds c.args.store.now) mid new (g.S.Store.known_as c.args.store.now) names list dir c.args.plan.now.partial c.args.verdicts.now c.in_ok-request.request c.in_ok-request.joined c.in_ok-notes.notes.items (spelling c.add_notes-merged.result)
+    (ap spelling c.add_notes-merged.ensures) c.requires c.in_ok-request.ensures.ok c.in_ok-notes.ensures.ok c.in_ok-save_verdict.ensures.others c.in_ok-save_verdict.ensures.whole)

@@ -1,15 +1,15 @@
 use Rattle.std.proofs.Common.{◌≡◌, ◌∷◌, ◌++◌, ◌<◌, ◌^◌, ◌∙◌, List, [], ap, inl, inr, length, length-append, map, refl, rules, subst, sym, arith}
-use Rattle.std.proofs.lemmas.List.{length-map}
 use Rattle.std.proofs.lemmas.Result.{err_from_is_err_and}
 use Rattle.mr_files.specs.Names.{name_of_part, part_files}
 use Rattle.mr_jobs.specs.JobSpec.{JobSpec}
 use Rattle.mr_shards.specs.Truth.{notes_for}
-use Rattle.mr_shards.specs.Verdict.{Note, Told}
+use Rattle.mr_shards.specs.Verdict.{Note}
 use Rattle.mr_shard_files.specs.Beside.{IsPartition, files_told}
 use Rattle.mr_shard_files.specs.Faults.{IsPartitionFault}
 use Rattle.mr_shard_files.specs.Made.{ReportsUnwritten}
 use Rattle.mr_files.proofs.Written.{either}
 use Rattle.mr_shard_files.specs.declared.fault.ShardFault.TheVariants.{OutOfMemory}
+use Rattle.mr_shard_files.proofs.InputLemmas.{told_count}
 use Rattle.mr_shard_files.proofs.NoteLemmas.{notes_next, notes_none}
 use Rattle.mr_shard_files.proofs.PartLemmas.{partitions_next, partitions_none}
 use Rattle.mr_shard_files.proofs.RestLemmas.{row_at, rows_rest, set_length}
@@ -47,8 +47,8 @@ part_written-requires-clause-files g c =
     let i = c.loop-partition.partition in
     let here : i < length c.loop-partition.rows.items = omega (arith, c.loop-partition-test.true, c.loop-partition.invariant.all, c.parts-count.ensures.same) in
     let opened = row_at holds unreadable remaining can_fail names vs c.loop-partition.rows.items i c.index_mut.result.now c.index_mut.result.now c.as_mut_slice-parts.result.now here c.index_mut.ensures.value c.as_mut_slice-parts.ensures.value c.loop-partition.invariant.opened in
-    let files : c.as_slice-files.result.now ≡ map files_told vs = c.as_slice-files.ensures.value ∙ c.in_ok-files.ensures in
-    ap length files ∙ length-map vs files_told ∙ sym (opened_count remaining can_fail holds unreadable i names vs c.as_mut_slice-parts.result.now opened)
+    let files : c.args.files.now ≡ files_told vs = c.requires.files in
+    ap length files ∙ told_count vs ∙ sym (opened_count remaining can_fail holds unreadable i names vs c.as_mut_slice-parts.result.now opened)
 
 pub part_written-requires-clause-count : goal.part_written-requires-clause-count
 part_written-requires-clause-count g c =
@@ -81,7 +81,7 @@ returns-in_err-note-clause-err g c =
     let i = c.loop-partition.partition in
     let here : i < length c.loop-partition.rows.items = omega (arith, c.loop-partition-test.true, c.loop-partition.invariant.all, c.parts-count.ensures.same) in
     let opened = row_at holds unreadable remaining can_fail names vs c.loop-partition.rows.items i c.index_mut.result.now c.index_mut.result.now c.as_mut_slice-parts.result.now here c.index_mut.ensures.value c.as_mut_slice-parts.ensures.value c.loop-partition.invariant.opened in
-    let files : c.as_slice-files.result.now ≡ map files_told vs = c.as_slice-files.ensures.value ∙ c.in_ok-files.ensures in
+    let files : c.args.files.now ≡ files_told vs = c.requires.files in
     let mid = g.S.Store.holds c.loop-partition.store in
     let new = g.S.Store.holds c.part_written.new.store in
     let dir = c.args.dir.now in
@@ -93,7 +93,7 @@ returns-in_err-note-clause-err g c =
     let told = ReportsUnwritten (g.S.Store.unwritable c.loop-partition.store (name_of_part dir i)) (name_of_part dir i) e in
     rw p.1 (rw p.2 (inr (inr (cut_short holds mid new unreadable (g.S.Store.unwritable c.args.store.now) (g.S.Store.unwritable c.loop-partition.store) c.args.request.now names vs dir held.texts i e held.count less fits held.merged held.whole held.emptied held.others held.still only
     (either {B = told} {D = told} (λ r. subst (λ (j : JobSpec). IsPartitionFault holds unreadable j names vs i e) c.job-job.ensures.same
-    (partition_refused remaining can_fail holds unreadable i c.job-job.result.now names vs c.as_mut_slice-parts.result.now c.as_slice-files.result.now e c.requires.few files opened r)) (λ u. u) c.in_err-note.ensures.err)))))
+    (partition_refused remaining can_fail holds unreadable i c.job-job.result.now names vs c.as_mut_slice-parts.result.now c.args.files.now e c.requires.few files opened r)) (λ u. u) c.in_err-note.ensures.err)))))
 
 pub returns-in_err-map_err-clause-err : goal.returns-in_err-map_err-clause-err
 returns-in_err-map_err-clause-err g c =
@@ -119,7 +119,7 @@ loop-partition-preserved g c =
     let i = c.loop-partition.partition in
     let here : i < length c.loop-partition.rows.items = omega (arith, c.loop-partition-test.true, c.loop-partition.invariant.all, c.parts-count.ensures.same) in
     let opened = row_at holds unreadable remaining can_fail names vs c.loop-partition.rows.items i c.index_mut.result.now c.index_mut.result.now c.as_mut_slice-parts.result.now here c.index_mut.ensures.value c.as_mut_slice-parts.ensures.value c.loop-partition.invariant.opened in
-    let files : c.as_slice-files.result.now ≡ map files_told vs = c.as_slice-files.ensures.value ∙ c.in_ok-files.ensures in
+    let files : c.args.files.now ≡ files_told vs = c.requires.files in
     let mid = g.S.Store.holds c.loop-partition.store in
     let new = g.S.Store.holds c.part_written.new.store in
     let dir = c.args.dir.now in
@@ -128,7 +128,7 @@ loop-partition-preserved g c =
     let only = c.in_ok-note.ensures.others in
     let (text, joined, stands, told) = c.in_ok-note.ensures.ok in
     let merged = subst (λ (j : JobSpec). IsPartition holds j names vs i text) c.job-job.ensures.same
-    (partition_joined remaining can_fail holds unreadable i c.job-job.result.now names vs c.as_mut_slice-parts.result.now c.as_slice-files.result.now text files opened joined) in
+    (partition_joined remaining can_fail holds unreadable i c.job-job.result.now names vs c.as_mut_slice-parts.result.now c.args.files.now text files opened joined) in
     let pushed : c.push.new.self.items ≡ c.loop-partition.notes.items ++ c.in_ok-note.note ∷ [] = search rules in
     record {
       texts = held.texts ++ text ∷ [];

@@ -1,4 +1,4 @@
-use Rattle.std.proofs.Common.{◌+◌, List, ℕ, map, string_bytes, subst, sym, take}
+use Rattle.std.proofs.Common.{List, ℕ, map, string_bytes, subst, sym, take}
 use Rattle.mr_files.proofs.Lists.{names_more}
 use Rattle.mr_shard_files.specs.Sharing.{AreBeside}
 use Rattle.mr_shard_files.proofs.SharingLemmas.{beside_more}
