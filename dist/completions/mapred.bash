@@ -12,6 +12,8 @@ _mapred() {
     'seq --parts') return ;;
     'seq --split') return ;;
     'seq --max-skips') return ;;
+    'seq --from') return ;;
+    'seq --to') return ;;
     'seq --out') mapfile -t COMPREPLY < <(compgen -d -- "$word") && return ;;
     'seq --skips') mapfile -t COMPREPLY < <(compgen -f -- "$word") && return ;;
     'seq --cert') return ;;
@@ -20,6 +22,8 @@ _mapred() {
     'run --parts') return ;;
     'run --split') return ;;
     'run --max-skips') return ;;
+    'run --from') return ;;
+    'run --to') return ;;
     'run --out') mapfile -t COMPREPLY < <(compgen -d -- "$word") && return ;;
     'run --workers') return ;;
     'run --attempts') return ;;
@@ -32,6 +36,8 @@ _mapred() {
     'check --parts') return ;;
     'check --split') return ;;
     'check --max-skips') return ;;
+    'check --from') return ;;
+    'check --to') return ;;
     'check --out') mapfile -t COMPREPLY < <(compgen -d -- "$word") && return ;;
     'check --threads') return ;;
     'check --verdict') mapfile -t COMPREPLY < <(compgen -f -- "$word") && return ;;
@@ -39,10 +45,10 @@ _mapred() {
     'merge --inputs') mapfile -t COMPREPLY < <(compgen -f -- "$word") && return ;;
     esac
     case "${COMP_WORDS[1]} $word" in
-    'seq -'*) mapfile -t COMPREPLY < <(compgen -W '--job --keep-case --literal --fold --by-host --parts --split --max-skips --out --skips --cert --help' -- "$word") ;;
-    'run -'*) mapfile -t COMPREPLY < <(compgen -W '--job --keep-case --literal --fold --by-host --parts --split --max-skips --out --workers --attempts --script --history --scratch --cert --help' -- "$word") ;;
-    'check -'*) mapfile -t COMPREPLY < <(compgen -W '--job --keep-case --literal --fold --by-host --parts --split --max-skips --out --threads --verdict --help' -- "$word") ;;
-    'merge -'*) mapfile -t COMPREPLY < <(compgen -W '--out --inputs --help' -- "$word") ;;
+    'seq -'*) mapfile -t COMPREPLY < <(compgen -W '--job --keep-case --literal --fold --by-host --parts --split --max-skips --from --to --out --skips --cert --help' -- "$word") ;;
+    'run -'*) mapfile -t COMPREPLY < <(compgen -W '--job --keep-case --literal --fold --by-host --parts --split --max-skips --from --to --out --workers --attempts --script --history --scratch --cert --help' -- "$word") ;;
+    'check -'*) mapfile -t COMPREPLY < <(compgen -W '--job --keep-case --literal --fold --by-host --parts --split --max-skips --from --to --out --threads --verdict --help' -- "$word") ;;
+    'merge -'*) mapfile -t COMPREPLY < <(compgen -W '--out --inputs --partial --help' -- "$word") ;;
     *) mapfile -t COMPREPLY < <(compgen -f -- "$word") ;;
     esac
 }
