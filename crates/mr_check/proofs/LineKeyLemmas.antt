@@ -11,7 +11,7 @@ use Rattle.std.proofs.lemmas.Grind.{same_number_lists}
 use Rattle.std.proofs.lemmas.Simd.{tops_compared, get_or-zip2}
 use lib.Lanes.{zip2, mask_l, top}
 use lib.Count.{count_trailing_zeros}
-use Rattle.mr_lanes.specs.Bits.{Extends, is_set}
+use Rattle.mr_lanes.specs.Bits.{is_set}
 use Rattle.mr_lanes.proofs.BitLemmas.{is_set-mod, is_set-mask_l}
 use Rattle.mr_lanes.proofs.RestLemmas.{First, Rest, all_rest, first, rest, cleared}
 use Rattle.mr_check.specs.Lines.{line_of, tab_behind, before_last_tab, told_key, TellsNear}
@@ -99,10 +99,6 @@ told_more xs ys key h = go (line_of xs) (line_of (xs ++ ys)) (line_more xs ys) h
     go : (o more : Option (List ℕ)) → ((l : List ℕ) → o ≡ Some l → more ≡ Some l) → option_and_then before_last_tab o ≡ Some key → option_and_then before_last_tab more ≡ Some key
     go None more f e = absurd (cc e)
     go (Some l) more f e = ap (option_and_then before_last_tab) (f l refl) ∙ e
-
--- so from a place on at which these bytes stand
-pub told_from : (front bytes key : List ℕ) → Extends front bytes → told_key front ≡ Some key → told_key bytes ≡ Some key
-told_from front bytes key h told = ap told_key h.is ∙ told_more front h.more key told
 
 -- ---- by lanes
 

@@ -236,19 +236,24 @@ impl LateList {
         self.late.as_slice()
     }
 
-    /// Gives back the room that isn't filled.
-    fn pack(&mut self)
+    /// Moves the entries into room that they fill. Room cut off behind each list would serve none.
+    /// What lists leave one after another is one piece, which the next lists fill.
+    fn pack(&mut self, alloc: Global) -> Result<(), AllocError>
         ensures { self.new ≡ self.old }
     {
-        self.late.shrink_to_fit();
+        let mut late = Vec::with_capacity(alloc, self.late.len())?;
+        late.extend_from_slice(self.late())?;
+        self.late = late;
+        Ok(())
     }
 }
 
-fn pack_all(lists: &mut [LateList])
+/// A list for which there is no memory stays where it is.
+fn pack_all(alloc: Global, lists: &mut [LateList])
     ensures { lists.new ≡ lists.old }
 {
     for list in lists.iter_mut() {
-        list.pack();
+        let _moved = list.pack(alloc);
     }
 }
 
@@ -343,10 +348,10 @@ impl<'a> Claims<'a> {
     }
 
     /// Gives back the room of lists that isn't filled.
-    pub fn pack(&mut self)
+    pub fn pack(&mut self, alloc: Global)
         ensures { self.new ≡ self.old }
     {
-        pack_all(self.lists.as_mut_slice());
+        pack_all(alloc, self.lists.as_mut_slice());
     }
 
     /// The late entries of window `w`.

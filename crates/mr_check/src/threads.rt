@@ -81,7 +81,7 @@ fn walk_section<'a>(
     let mut items = section.walker;
     let came = walk.take_some(given, &mut items, most, &Unwatched);
     // All walks stand until the windows are tested, so none keeps more than it put off.
-    walk.claims.pack();
+    walk.claims.pack(alloc);
     Ok(walk.end(began, most, came))
 }
 
