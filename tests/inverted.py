@@ -3,7 +3,7 @@ workers; and its verdicts, which are written and not merged."""
 import os
 
 from harness import parts_of, read_result as result_of, seeded, write_result
-from merge import merged, run_shard, write_shard
+from merge import merged, run_shard, said, write_shard
 from plain import Request, produced
 from rows import MAGIC, certificate_of, judged, judged_in_version_2, row
 from running import ran
@@ -143,22 +143,21 @@ def by_workers(harness):
 
 
 def shards(harness):
-    """Verdicts of an index are written as others are, and not merged: nothing is written then."""
+    """Verdicts of an index are written as others are, and merged with each other alone."""
     index, words = Request("index", 2, 16), Request("words", 2, 16)
     for made in (write_shard, run_shard):
         one, two = (made(harness, index, [name], [data], []) for name, data in TWO.items())
         counted = made(harness, words, ["b"], [TWO["b"]], [])
         harness.check("the verdict of an index", contents(one)["verdict"].startswith(b"verdict 2\njob 4\nflags 0\nliteral \npartitions 2\nsplit 16\n"), repr(contents(one)["verdict"]))
-        for name, given, said in [
-            ("two shards", [one, two], b"NoRequest"),
-            ("one shard", [one], b"NoRequest"),
-            ("an index and words", [one, counted], b"NoRequest"),
-            ("words and an index", [counted, one], b"OtherRequest shard 1"),
-        ]:
+        where = harness.directory()
+        got = merged(harness, where, [one, two])
+        outputs, _, pairs = produced(index, [*TWO.values()])
+        harness.check(f"two shards by {made.__name__}, merged", got == (0, said(outputs, pairs, []), b"") and parts_of(where) == outputs, repr(got))
+        for name, given in [("an index and words", [one, counted]), ("words and an index", [counted, one])]:
             where = harness.directory({"part-00000": b"old", "verdict": b"old"})
             got = merged(harness, where, given)
             stands = contents(where) == {"part-00000": b"old", "verdict": b"old"}
-            harness.check(f"{name} by {made.__name__}, merged", got == (1, b"", b"mapred: " + said + b"\n") and stands, repr(got))
+            harness.check(f"{name} by {made.__name__}, merged", got == (1, b"", b"mapred: OtherRequest shard 1\n") and stands, repr(got))
 
 
 GROUPS = {"index": worked, "index certified": certificates, "index refused": refusals, "index by workers": by_workers, "index in shards": shards}

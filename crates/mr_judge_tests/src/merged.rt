@@ -118,6 +118,37 @@ const ONE_FILE: [ShardText<'static>; 3] = [
     },
 ];
 
+// Files of an index.
+const FILES: [ShardText<'static>; 3] = [
+    ShardText {
+        files: ONE,
+        text: b"a\t0\n",
+    },
+    ShardText {
+        files: THREE,
+        text: b"a\t0,2\nb\t1\n",
+    },
+    ShardText {
+        files: ONE,
+        text: b"b\t0\nc\t0\n",
+    },
+];
+
+// The second file of the first shard goes on in the next one: its number is kept once.
+const CUT_FILES: [ShardText<'static>; 2] = [
+    ShardText {
+        files: ShardFiles {
+            count: 2,
+            cut: Some(600),
+        },
+        text: b"a\t0,1\nb\t1\n",
+    },
+    ShardText {
+        files: TWO,
+        text: b"a\t0\nb\t0,1\nc\t1\n",
+    },
+];
+
 // Whether these outputs are merged to that text.
 fn merges_to(
     alloc: Global,
@@ -170,6 +201,17 @@ const WITH_PLACES: [Row<'static>; 4] = [
     },
 ];
 
+const WITH_FILES: [Row<'static>; 2] = [
+    Row {
+        outputs: &FILES,
+        want: b"a\t0,1,3\nb\t2,4\nc\t4\n",
+    },
+    Row {
+        outputs: &CUT_FILES,
+        want: b"a\t0,1\nb\t1,2\nc\t2\n",
+    },
+];
+
 // Whether each row's outputs are merged to its text.
 fn are_merged(alloc: Global, job: &Job, rows: &[Row<'_>]) -> bool {
     for row in rows {
@@ -180,13 +222,14 @@ fn are_merged(alloc: Global, job: &Job, rows: &[Row<'_>]) -> bool {
     true
 }
 
-/// Totals are added, keys may hold tabs, and places follow by file.
+/// Totals are added, keys may hold tabs, places follow by file, and files of an index are joined.
 #[test]
 fn outputs_are_merged(rt: HostRuntime) -> Result<(), Fail> {
     let grep = Job::grep(rt.alloc(), b"x", false)?;
     assert!(rt; are_merged(rt.alloc(), &grep, &WITH_PLACES));
     assert!(rt; are_merged(rt.alloc(), &Job::words(false), &WITH_TOTALS));
     assert!(rt; are_merged(rt.alloc(), &Job::url(), &WITH_TABS));
+    assert!(rt; are_merged(rt.alloc(), &Job::index(false), &WITH_FILES));
     Ok(())
 }
 
@@ -235,6 +278,26 @@ const BAD_WITH_PLACES: [(&[u8], Option<(usize, u64)>); 3] = [
     (b"x\t1\n", Some((1, 0))),
 ];
 
+// The same of an index.
+const BAD_WITH_FILES: [(&[u8], Option<(usize, u64)>); 12] = [
+    (b"a\t0\nb\t0\n", None),
+    // Numbers that do not rise.
+    (b"a\t0,0\n", Some((1, 0))),
+    (b"a\t1,0\n", Some((1, 0))),
+    // No number, one with a zero in front, or one too large.
+    (b"a\t\n", Some((1, 0))),
+    (b"a\t0,\n", Some((1, 0))),
+    (b"a\t,0\n", Some((1, 0))),
+    (b"a\t00\n", Some((1, 0))),
+    (b"a\t4294967296\n", Some((1, 0))),
+    (b"a\t18446744073709551616\n", Some((1, 0))),
+    // Keys that do not rise.
+    (b"b\t0\na\t0\n", Some((1, 1))),
+    (b"a\t0\na\t0\n", Some((1, 1))),
+    // Another job's line.
+    (b"x\t0:0\n", Some((1, 0))),
+];
+
 // Whether the bad line of each text is told, where it has one.
 fn are_told(alloc: Global, job: &Job, rows: &[(&[u8], Option<(usize, u64)>)]) -> bool {
     for (text, want) in rows {
@@ -250,6 +313,7 @@ fn bad_lines(rt: HostRuntime) -> Result<(), Fail> {
     let grep = Job::grep(rt.alloc(), b"x", false)?;
     assert!(rt; are_told(rt.alloc(), &grep, &BAD_WITH_PLACES));
     assert!(rt; are_told(rt.alloc(), &Job::words(false), &BAD_WITH_TOTALS));
+    assert!(rt; are_told(rt.alloc(), &Job::index(false), &BAD_WITH_FILES));
     Ok(())
 }
 
@@ -274,6 +338,15 @@ fn places_beyond(rt: HostRuntime) -> Result<(), Fail> {
     );
     assert!(rt; fault_of(rt.alloc(), &grep, long, late) == Some(MergeFault::PlaceTooFar));
     assert!(rt; fault_of(rt.alloc(), &grep, late, long) == None);
+    let index = Job::index(false);
+    assert!(rt;
+        fault_of(
+            rt.alloc(),
+            &index,
+            shard(1, b"a\t0\n"),
+            shard(1, b"a\t0,1\n")
+        ) == Some(MergeFault::NoSuchFile { shard: 1 })
+    );
     Ok(())
 }
 

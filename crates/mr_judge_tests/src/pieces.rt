@@ -174,10 +174,20 @@ const PLACES: [Row<'static>; 3] = [
     },
 ];
 
+// Files of one key come together.
+const JOINED: [Row<'static>; 1] = [Row {
+    first: b"a\t0,1\nb\t1\nc\t0\n",
+    second: b"b\t0\nc\t0\nd\t0\n",
+    from: 1,
+    grows: true,
+    want: Ok(b"a\t0,1\nb\t1,2\nc\t0,2\nd\t2\n"),
+}];
+
 #[test]
 fn merged_in_windows(rt: HostRuntime) -> Result<(), Fail> {
     let grep = Job::grep(rt.alloc(), b"x", false)?;
     assert!(rt; always_come_to(rt.alloc(), &grep, &PLACES));
     assert!(rt; always_come_to(rt.alloc(), &Job::words(false), &TOTALS));
+    assert!(rt; always_come_to(rt.alloc(), &Job::index(false), &JOINED));
     Ok(())
 }

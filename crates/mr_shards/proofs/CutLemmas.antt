@@ -9,10 +9,10 @@ use Rattle.std.specs.Ordering.{is_lt}
 use Rattle.std.specs.declared.cmp.Ordering.TheVariants.{Less}
 use Rattle.mr_bytes.specs.Cut.{Lacks}
 use Rattle.mr_bytes.specs.Order.{key_order}
-use Rattle.mr_jobs.specs.JobSpec.{JobSpec, counts}
+use Rattle.mr_jobs.specs.JobSpec.{JobSpec}
 use Rattle.mr_shards.specs.declared.window.Window.{Window}
 use Rattle.mr_shards.specs.Merged.{Group}
-use Rattle.mr_shards.specs.Lines.{before_last, group_in, groups_in, lines, longer}
+use Rattle.mr_shards.specs.Lines.{before_last, group_in, groups_in, lines, longer, joins}
 use Rattle.mr_shards.specs.Pieces.{BeginsBehind, Bound, IsBefore, before_at, but_last, bytes_before, cut_before, is_before, last_key_in, least_last, lesser_place, next_place, place_for}
 use Rattle.mr_shards.proofs.ReadingLemmas.{lines-next, lines-none}
 use Rattle.mr_shards.proofs.StepLemmas.{NotLess, is_lt-less, less-not, not_less-itself, not_less-trans}
@@ -321,7 +321,7 @@ fewer-ending k m n [] few all = tt
 fewer-ending k m n (w ∷ ws) few all = (fewer-ends k m n w few all.0, fewer-ending k (pred m) (pred n) ws (pred-both m n few) all.1)
 
 pub ending-for : (job : JobSpec) (b : Bound) (ws : List Window) → AreEnding b ws → AreEnding (place_for job b) ws
-ending-for job b ws all = by (counts job)
+ending-for job b ws all = by (joins job)
   where
     by : (t : Bool) → AreEnding (record { key = b.key; shards = cond t 0 b.shards }) ws
     by true = fewer-ending b.key 0 b.shards ws (omega arith) all

@@ -1,7 +1,7 @@
 -- Fields between commas, and numbers that are added one by one.
-use Rattle.std.proofs.Common.{◌≡◌, ℕ, ◌+◌, ◌-◌, ◌<◌, ◌≤◌, ◌^◌, cond, eqb, Bool, true, false, List, [], ◌∷◌, ◌++◌, length, get_or, map, refl, sym, ◌∙◌, ap, subst, arith, inl, inr, Option, None, Some}
+use Rattle.std.proofs.Common.{◌≡◌, ℕ, ◌+◌, ◌<◌, ◌≤◌, ◌^◌, cond, eqb, Bool, true, false, List, [], ◌∷◌, ◌++◌, length, map, refl, sym, ◌∙◌, ap, subst, arith, inl, inr, Option, None, Some}
 use Rattle.std.specs.Prelude.{decimal}
-use Rattle.std.proofs.lemmas.Bool.{cases_eq, eq-eqb, ne_eqb, eqb-true}
+use Rattle.std.proofs.lemmas.Bool.{cases_eq, eq-eqb, ne_eqb}
 use Rattle.std.proofs.lemmas.List.{append-nil}
 use Rattle.std.proofs.lemmas.Cmp.{ranked}
 use Rattle.std.proofs.lemmas.Fmt.{decimal_injective}
@@ -14,11 +14,17 @@ use Rattle.mr_bytes.proofs.ListLaws.{Has-all}
 use Rattle.mr_reduce.specs.Text.{comma_separated}
 use Rattle.mr_reduce.proofs.FileLemmas.{comma}
 use Rattle.mr_sequential.proofs.NameLaws.{less}
-use Rattle.mr_shards.specs.Lines.{fields, longer}
+use Rattle.mr_shards.specs.Lines.{fields, longer, numbers_in, places_in}
 use Rattle.mr_bytes.specs.Cut.{Lacks}
-use Rattle.mr_shards.specs.Index.{IsFileList, fields_left, last_is}
-use Rattle.mr_shards.specs.Index.{joined_numbers}
-use Rattle.mr_shards.proofs.FileNumberLemmas.{fields-commas, fields-last, fields-next}
+use Rattle.mr_shards.specs.Index.{fields_left, number_past}
+use Rattle.mr_shards.specs.Views.{IsListTo}
+use Rattle.mr_shards.specs.Portions.{Shift, shifted_value}
+use Rattle.mr_bytes.specs.declared.Value.{Value}
+use Rattle.mr_bytes.specs.declared.Value.TheVariants.{At}
+use Rattle.std.specs.Prelude.{IfSome, MatchOption}
+use Rattle.std.specs.Str.Parse.{digits_value}
+use Rattle.std.proofs.lemmas.List.{append_assoc}
+use Rattle.mr_shards.proofs.ReadingLemmas.{fields-commas, fields-last, fields-next, values-read}
 
 pub field-more : (text field rest : List ℕ) → text ≡ field ++ 44 ∷ rest → Lacks 44 field → fields text ≡ field ∷ fields rest
 field-more text field rest e clear = ap fields e ∙ fields-next field rest clear
@@ -26,32 +32,7 @@ field-more text field rest e clear = ap fields e ∙ fields-next field rest clea
 pub field-last : (text : List ℕ) → Lacks 44 text → fields text ≡ text ∷ []
 field-last text clear = fields-last text clear
 
-last-from : (n m : ℕ) (ms : List ℕ) → last_is n (m ∷ ms) ≡ eqb (get_or (m ∷ ms) (length ms) 0) n
-last-from n m [] = refl
-last-from n m (k ∷ ms) = last-from n k ms
-
-pub last-read : (n : ℕ) (ms : List ℕ) → 0 < length ms → eqb (get_or ms (length ms - 1) 0) n ≡ last_is n ms
-last-read n [] some = absurd (omega (arith, some))
-last-read n (m ∷ ms) some =
-    let last : length (m ∷ ms) - 1 ≡ length ms = omega arith in
-    ap (λ k. eqb (get_or (m ∷ ms) k 0) n) last ∙ sym (last-from n m ms)
-
-pub joined-there : (n : ℕ) (ms : List ℕ) → last_is n ms ≡ true → joined_numbers ms (n ∷ []) ≡ ms
-joined-there n [] e = absurd cc
-joined-there n (m ∷ []) e =
-    ap (λ b. cond b (n ∷ []) (m ∷ n ∷ [])) e ∙ ap (λ k. k ∷ []) (sym (eqb-true m n e))
-joined-there n (m ∷ k ∷ ms) e = ap (λ l. m ∷ l) (joined-there n (k ∷ ms) e)
-
-pub joined-new : (n : ℕ) (ms : List ℕ) → last_is n ms ≡ false → joined_numbers ms (n ∷ []) ≡ ms ++ n ∷ []
-joined-new n [] e = refl
-joined-new n (m ∷ []) e = ap (λ b. cond b (n ∷ []) (m ∷ n ∷ [])) e
-joined-new n (m ∷ k ∷ ms) e = ap (λ l. m ∷ l) (joined-new n (k ∷ ms) e)
-
 -- ---- fields that were read
-
-append-last : (xs : List ℕ) (x : ℕ) (f : ℕ → List ℕ) → map f (xs ++ x ∷ []) ≡ map f xs ++ f x ∷ []
-append-last [] x f = refl
-append-last (y ∷ ys) x f = ap (λ l. f y ∷ l) (append-last ys x f)
 
 all-last : (P : ℕ → Type 0) (xs : List ℕ) (x : ℕ) → AllByRecursion P xs → P x → AllByRecursion P (xs ++ x ∷ [])
 all-last P [] x all p = (p, tt)
@@ -68,39 +49,6 @@ all-weaker P Q (x ∷ xs) f all = (f x all.0, all-weaker P Q xs f all.1)
 rises-last : (xs : List ℕ) (x : ℕ) → Rises nat_cmp xs → AllByRecursion (λ y. y < x) xs → Rises nat_cmp (xs ++ x ∷ [])
 rises-last [] x r all = (tt, tt)
 rises-last (y ∷ ys) x r all = (all-last (λ z. nat_cmp y z ≡ Less) ys x r.0 (less y x all.0), rises-last ys x r.1 all.1)
-
-joined-past : (ms : List ℕ) (x : ℕ) → AllByRecursion (λ y. y < x) ms → joined_numbers ms (x ∷ []) ≡ ms ++ x ∷ []
-joined-past [] x all = refl
-joined-past (m ∷ []) x all = ap (λ b. cond b (x ∷ []) (m ∷ x ∷ [])) (ne_eqb m x (λ e. omega (arith, e, all.0)))
-joined-past (m ∷ k ∷ ms) x all = ap (λ l. m ∷ l) (joined-past (k ∷ ms) x all.1)
-
-joined-none : (ms : List ℕ) → joined_numbers ms [] ≡ ms
-joined-none [] = refl
-joined-none (m ∷ []) = refl
-joined-none (m ∷ k ∷ ms) = ap (λ l. m ∷ l) (joined-none (k ∷ ms))
-
-joined-some : (m : ℕ) (ms ns : List ℕ) → (k : ℕ) × (ks : List ℕ) × (joined_numbers (m ∷ ms) ns ≡ k ∷ ks)
-joined-some m [] [] = (m, [], refl)
-joined-some m [] (n ∷ ns) = by (eqb m n)
-  where
-    by : (b : Bool) → (k : ℕ) × (ks : List ℕ) × (cond b (n ∷ ns) (m ∷ n ∷ ns) ≡ k ∷ ks)
-    by true = (n, ns, refl)
-    by false = (m, n ∷ ns, refl)
-joined-some m (k ∷ ms) ns = (m, joined_numbers (k ∷ ms) ns, refl)
-
--- one number more, behind all others of the second list
-joined-more : (ms ns : List ℕ) (x : ℕ) → AllByRecursion (λ y. y < x) ns → joined_numbers ms (ns ++ x ∷ []) ≡ joined_numbers (joined_numbers ms ns) (x ∷ [])
-joined-more [] ns x all = sym (joined-past ns x all)
-joined-more (m ∷ []) [] x all = refl
-joined-more (m ∷ []) (n ∷ ns) x all = by (eqb m n)
-  where
-    by : (b : Bool) → cond b (n ∷ (ns ++ x ∷ [])) (m ∷ n ∷ (ns ++ x ∷ [])) ≡ joined_numbers (cond b (n ∷ ns) (m ∷ n ∷ ns)) (x ∷ [])
-    by true = sym (joined-past (n ∷ ns) x all)
-    by false = ap (λ l. m ∷ l) (sym (joined-past (n ∷ ns) x all))
-joined-more (m ∷ k ∷ ms) ns x all =
-    let some = joined-some k ms ns in
-    ap (λ l. m ∷ l) (joined-more (k ∷ ms) ns x all ∙ ap (λ l. joined_numbers l (x ∷ [])) some.2)
-    ∙ ap (λ l. joined_numbers (m ∷ l) (x ∷ [])) (sym some.2)
 
 -- the fields with commas between them again
 abbrev rejoined : List (List ℕ) → List ℕ
@@ -137,30 +85,14 @@ rejoined-decimals (n ∷ ns) = ap (λ l. decimal n ++ l) (commas ns)
     commas [] = refl
     commas (m ∷ ms) = ap (λ l. comma m ++ l) (commas ms)
 
--- the numbers that were read so far, and those that they were added to
-pub record AreReadSo (files before : ℕ) (told : List ℕ) (left : Option (Bor (List ℕ))) (least : ℕ) (old new : List ℕ) : Type 0 where
-  pub done : List ℕ
+-- the numbers that were read so far, and the last of them
+pub record AreReadSo (told : List ℕ) (left : Option (Bor (List ℕ))) (last : Option ℕ) (done : List ℕ) : Type 0 where
   pub fields_are : fields told ≡ map decimal done ++ fields_left left
   pub rise : Rises nat_cmp done
-  pub below : AllByRecursion (λ n. n < files) done
-  pub past : AllByRecursion (λ n. n < least) done
-  pub least_is : (m : ℕ) → AllByRecursion (λ n. n < m) done → least ≤ m
-  pub joined : new ≡ joined_numbers old (map (λ n. before + n) done)
-
-pub read-none : (files before : ℕ) (told : Bor (List ℕ)) (old : List ℕ) → AreReadSo files before told.now (Some told) 0 old old
-read-none files before told old = record {
-  done = [];
-  fields_are = refl;
-  rise = tt;
-  below = tt;
-  past = tt;
-  least_is = λ m all. omega arith;
-  joined = sym (joined-none old);
-}
-
-moved-past : (before n : ℕ) (ns : List ℕ) → AllByRecursion (λ m. m < n) ns → AllByRecursion (λ m. m < before + n) (map (λ m. before + m) ns)
-moved-past before n [] all = tt
-moved-past before n (m ∷ ms) all = (omega (arith, all.0), moved-past before n ms all.1)
+  pub below : AllByRecursion (λ n. n < 2 ^ 32) done
+  pub past : AllByRecursion (λ n. n < number_past last) done
+  pub least_is : (m : ℕ) → AllByRecursion (λ n. n < m) done → number_past last ≤ m
+  pub last_is : IfSome last (λ n. Has done n)
 
 fields-append : (xs : List (List ℕ)) (y : List ℕ) (zs : List (List ℕ)) → xs ++ y ∷ zs ≡ (xs ++ y ∷ []) ++ zs
 fields-append [] y zs = refl
@@ -170,47 +102,65 @@ map-last : (xs : List ℕ) (x : ℕ) → map decimal (xs ++ x ∷ []) ≡ map de
 map-last [] x = refl
 map-last (y ∷ ys) x = ap (λ l. decimal y ∷ l) (map-last ys x)
 
-moved-last : (before : ℕ) (xs : List ℕ) (x : ℕ) → map (λ n. before + n) (xs ++ x ∷ []) ≡ map (λ n. before + n) xs ++ (before + x) ∷ []
-moved-last before [] x = refl
-moved-last before (y ∷ ys) x = ap (λ l. (before + y) ∷ l) (moved-last before ys x)
+has-last : (xs : List ℕ) (x : ℕ) → Has (xs ++ x ∷ []) x
+has-last [] x = inl refl
+has-last (y ∷ ys) x = inr (has-last ys x)
 
-pub read-more : (files before : ℕ) (told : List ℕ) (text : Bor (List ℕ)) (least : ℕ) (old mid new field : List ℕ) (rest : Option (Bor (List ℕ))) (n : ℕ)
-    → AreReadSo files before told (Some text) least old mid → fields text.now ≡ field ∷ fields_left rest → field ≡ decimal n → least ≤ n → n < files
-    → new ≡ joined_numbers mid ((before + n) ∷ []) → AreReadSo files before told rest (n + 1) old new
-read-more files before told text least old mid new field rest n was is told_is low high added =
-    let all : AllByRecursion (λ m. m < n) was.done = all-weaker (λ m. m < least) (λ m. m < n) was.done (λ m h. omega (arith, h, low)) was.past in
+pub read-more : (told : List ℕ) (text : Bor (List ℕ)) (last : Option ℕ) (done field : List ℕ) (rest : Option (Bor (List ℕ))) (n : ℕ)
+    → AreReadSo told (Some text) last done → fields text.now ≡ field ∷ fields_left rest → field ≡ decimal n → number_past last ≤ n → n < 2 ^ 32
+    → AreReadSo told rest (Some n) (done ++ n ∷ [])
+read-more told text last done field rest n was is told_is low high =
+    let all : AllByRecursion (λ m. m < n) done = all-weaker (λ m. m < number_past last) (λ m. m < n) done (λ m h. omega (arith, h, low)) was.past in
     record {
-      done = was.done ++ n ∷ [];
       fields_are =
-          was.fields_are ∙ ap (λ l. map decimal was.done ++ l) (is ∙ ap (λ f. f ∷ fields_left rest) told_is)
-          ∙ fields-append (map decimal was.done) (decimal n) (fields_left rest) ∙ ap (λ l. l ++ fields_left rest) (sym (map-last was.done n));
-      rise = rises-last was.done n was.rise all;
-      below = all-last (λ m. m < files) was.done n was.below high;
-      past = all-last (λ m. m < n + 1) was.done n (all-weaker (λ m. m < n) (λ m. m < n + 1) was.done (λ m h. omega (arith, h)) all) (omega arith);
-      least_is = λ m h. (let last : n < m = all-but_last (λ k. k < m) was.done n h in omega (arith, last));
-      joined = added ∙ ap (λ l. joined_numbers l ((before + n) ∷ [])) was.joined
-          ∙ sym (joined-more old (map (λ m. before + m) was.done) (before + n) (moved-past before n was.done all))
-          ∙ ap (joined_numbers old) (sym (moved-last before was.done n));
+          was.fields_are ∙ ap (λ l. map decimal done ++ l) (is ∙ ap (λ f. f ∷ fields_left rest) told_is)
+          ∙ fields-append (map decimal done) (decimal n) (fields_left rest) ∙ ap (λ l. l ++ fields_left rest) (sym (map-last done n));
+      rise = rises-last done n was.rise all;
+      below = all-last (λ m. m < 2 ^ 32) done n was.below high;
+      past = all-last (λ m. m < n + 1) done n (all-weaker (λ m. m < n) (λ m. m < n + 1) done (λ m h. omega (arith, h)) all) (omega arith);
+      least_is = λ m h. (let last : n < m = all-but_last (λ k. k < m) done n h in omega (arith, last));
+      last_is = has-last done n;
     }
 
-pub read-all : (files before : ℕ) (told : List ℕ) (left : Option (Bor (List ℕ))) (least : ℕ) (old new : List ℕ) → left ≡ None → AreReadSo files before told left least old new
-    → (ns : List ℕ) × IsFileList files told ns × (new ≡ joined_numbers old (map (λ n. before + n) ns))
-read-all files before told left least old new none was =
-    let all : fields told ≡ map decimal was.done =
-    was.fields_are ∙ ap (λ l. map decimal was.done ++ fields_left l) none ∙ append-nil (map decimal was.done) in (
-      was.done,
-      record {
-        text = sym (rejoined-fields told) ∙ ap rejoined all ∙ rejoined-decimals was.done;
-        some = some was.done all;
-        rise = was.rise;
-        below = was.below;
-      },
-      was.joined,
+-- the fields are all read
+fields-all : (told : List ℕ) (left : Option (Bor (List ℕ))) (last : Option ℕ) (done : List ℕ) → left ≡ None → AreReadSo told left last done → fields told ≡ map decimal done
+fields-all told left last done none was = was.fields_are ∙ ap (λ l. map decimal done ++ fields_left l) none ∙ append-nil (map decimal done)
+
+some-read : (told ns : List ℕ) → fields told ≡ map decimal ns → 0 < length ns
+some-read told [] e = (let w = fields-some told in absurd (let no : w.0 ∷ w.1 ≡ [] = sym w.2 ∙ e in cc))
+some-read told (n ∷ ns) e = omega arith
+
+read-all : (told : List ℕ) (left : Option (Bor (List ℕ))) (last : ℕ) (done : List ℕ) → left ≡ None → AreReadSo told left (Some last) done → IsListTo last told
+read-all told left last done none was =
+    let all = fields-all told left (Some last) done none was in (
+      Has-all (λ n. n < 2 ^ 32) done last was.below was.last_is,
+      (
+        done,
+        record {
+          text = sym (rejoined-fields told) ∙ ap rejoined all ∙ rejoined-decimals done;
+          some = some-read told done all;
+          rise = was.rise;
+          below = was.past;
+        },
+        was.last_is,
+      ),
     )
+
+-- a list has numbers
+none-read : (told : List ℕ) (left : Option (Bor (List ℕ))) (done : List ℕ) → left ≡ None → AreReadSo told left None done → (n : ℕ) → IsListTo n told → ⊥
+none-read told left done none was n given =
+    let all = fields-all told left None done none was in
+    let some : 0 < length done = some-read told done all in
+    by done some was.past
   where
-    some : (ns : List ℕ) → fields told ≡ map decimal ns → 0 < length ns
-    some [] e = (let w = fields-some told in absurd (let no : w.0 ∷ w.1 ≡ [] = sym w.2 ∙ e in cc))
-    some (n ∷ ns) e = omega arith
+    by : (ns : List ℕ) → 0 < length ns → AllByRecursion (λ m. m < 0) ns → ⊥
+    by [] some past = omega (arith, some)
+    by (m ∷ ms) some past = omega (arith, past.0)
+
+pub read-ends : (told : List ℕ) (left : Option (Bor (List ℕ))) (last : Option ℕ) (done : List ℕ) → left ≡ None → AreReadSo told left last done
+    → MatchOption last ((n : ℕ) → IsListTo n told → ⊥) (λ n. IsListTo n told)
+read-ends told left None done none was = none-read told left done none was
+read-ends told left (Some n) done none was = read-all told left n done none was
 
 -- a field behind those of numbers is one of the numbers that all fields tell
 field-among : (done ns : List ℕ) (field : List ℕ) (more : List (List ℕ)) → AllByRecursion (λ n. n < 2 ^ 64) done → AllByRecursion (λ n. n < 2 ^ 64) ns
@@ -245,18 +195,55 @@ number-there files least done ns m rest e rise below least_is = (
   below-through (λ n. n < files) done m rest (subst (AllByRecursion (λ n. n < files)) e below),
 )
 
-pub read-refused : (files before : ℕ) (told : List ℕ) (text : Bor (List ℕ)) (least : ℕ) (old new field : List ℕ) (more : List (List ℕ)) (ns : List ℕ) → files < 2 ^ 32
-    → AreReadSo files before told (Some text) least old new → fields text.now ≡ field ∷ more → ((n : ℕ) → field ≡ decimal n → least ≤ n → n < files → ⊥)
-    → IsFileList files told ns → ⊥
-read-refused files before told text least old new field more ns fit was is none given =
-    let small : (xs : List ℕ) → AllByRecursion (λ n. n < files) xs → AllByRecursion (λ n. n < 2 ^ 64) xs =
-    λ xs. all-weaker (λ n. n < files) (λ n. n < 2 ^ 64) xs (λ n h. omega (arith, h, fit)) in
-    let all : fields told ≡ map decimal ns = ap fields given.text ∙ fields-told ns given.some (small ns given.below) in
-    let w = field-among was.done ns field more (small was.done was.below) (small ns given.below)
-    (sym (was.fields_are ∙ ap (λ l. map decimal was.done ++ l) is) ∙ all) in
-    let there = number-there files least was.done ns w.0 w.1 w.2 given.rise given.below was.least_is in
-    none w.0 w.3 there.0 there.1
-  where
-    fields-told : (ms : List ℕ) → 0 < length ms → AllByRecursion (λ n. n < 2 ^ 64) ms → fields (comma_separated ms) ≡ map decimal ms
-    fields-told [] some small = absurd (omega (arith, some))
-    fields-told (m ∷ ms) some small = fields-commas m ms small
+fields-told : (ms : List ℕ) → 0 < length ms → AllByRecursion (λ n. n < 2 ^ 64) ms → fields (comma_separated ms) ≡ map decimal ms
+fields-told [] some small = absurd (omega (arith, some))
+fields-told (m ∷ ms) some small = fields-commas m ms small
+
+pub read-refused : (told : List ℕ) (text : Bor (List ℕ)) (last : Option ℕ) (done field : List ℕ) (more : List (List ℕ)) (end : ℕ)
+    → AreReadSo told (Some text) last done → fields text.now ≡ field ∷ more → ((n : ℕ) → field ≡ decimal n → number_past last ≤ n → n < 2 ^ 32 → ⊥)
+    → IsListTo end told → ⊥
+read-refused told text last done field more end was is none given =
+    let ns : List ℕ = given.1.0 in
+    let list = given.1.1 in
+    let small : AllByRecursion (λ n. n < 2 ^ 64) ns = all-weaker (λ n. n < end + 1) (λ n. n < 2 ^ 64) ns (λ n h. omega (arith, h, given.0)) list.below in
+    let all : fields told ≡ map decimal ns = ap fields list.text ∙ fields-told ns list.some small in
+    let w = field-among done ns field more (all-weaker (λ n. n < 2 ^ 32) (λ n. n < 2 ^ 64) done (λ n h. omega (arith, h)) was.below) small
+    (sym (was.fields_are ∙ ap (λ l. map decimal done ++ l) is) ∙ all) in
+    let there = number-there (end + 1) (number_past last) done ns w.0 w.1 w.2 list.rise list.below was.least_is in
+    none w.0 w.3 there.0 (omega (arith, there.1, given.0))
+
+-- ---- places of the numbers
+
+pub placed-last : (s : Shift) (xs : List ℕ) (x : ℕ) → map (shifted_value s) (places_in (xs ++ x ∷ [])) ≡ map (shifted_value s) (places_in xs) ++ shifted_value s (At x 0) ∷ []
+placed-last s [] x = refl
+placed-last s (y ∷ ys) x = ap (λ l. shifted_value s (At y 0) ∷ l) (placed-last s ys x)
+
+-- one place more
+pub places-more : (s : Shift) (old mid new : List Value) (done : List ℕ) (n : ℕ) (v : Value) → mid ≡ old ++ map (shifted_value s) (places_in done) → v ≡ shifted_value s (At n 0)
+    → new ≡ mid ++ v ∷ [] → new ≡ old ++ map (shifted_value s) (places_in (done ++ n ∷ []))
+places-more s old mid new done n v was is e =
+    e ∙ (λ i. was i ++ is i ∷ []) ∙ append_assoc old (map (shifted_value s) (places_in done)) (shifted_value s (At n 0) ∷ [])
+    ∙ ap (λ l. old ++ l) (sym (placed-last s done n))
+
+-- what was read of a list is below its last number
+pub read-fits : (told : List ℕ) (text : Bor (List ℕ)) (before : Option ℕ) (done field : List ℕ) (more : List (List ℕ)) (last n : ℕ) → AreReadSo told (Some text) before done
+    → fields text.now ≡ field ∷ more → field ≡ decimal n → n < 2 ^ 32 → IsListTo last told → n ≤ last
+read-fits told text before done field more last n was is told_is high given =
+    let ns : List ℕ = given.1.0 in
+    let list = given.1.1 in
+    let small : AllByRecursion (λ n. n < 2 ^ 64) ns = all-weaker (λ n. n < last + 1) (λ n. n < 2 ^ 64) ns (λ n h. omega (arith, h, given.0)) list.below in
+    let all : fields told ≡ map decimal ns = ap fields list.text ∙ fields-told ns list.some small in
+    let w = field-among done ns field more (all-weaker (λ n. n < 2 ^ 32) (λ n. n < 2 ^ 64) done (λ n h. omega (arith, h)) was.below) small
+    (sym (was.fields_are ∙ ap (λ l. map decimal done ++ l) is) ∙ all) in
+    let m : ℕ = w.0 in
+    let low : m < last + 1 = below-through (λ k. k < last + 1) done m w.1 (subst (AllByRecursion (λ k. k < last + 1)) w.2 list.below) in
+    let same : n ≡ m = decimal_injective n m (omega (arith, high)) (omega (arith, low, given.0)) (sym told_is ∙ w.3) in
+    omega (arith, low, same)
+
+-- all places are those of the list
+pub places-all : (s : Shift) (told : List ℕ) (left : Option (Bor (List ℕ))) (before : Option ℕ) (done : List ℕ) (old new : List Value) → left ≡ None
+    → AreReadSo told left before done → new ≡ old ++ map (shifted_value s) (places_in done) → new ≡ old ++ map (shifted_value s) (places_in (numbers_in told))
+places-all s told left before done old new none was e =
+    let all = fields-all told left before done none was in
+    let same : numbers_in told ≡ done = ap (map (digits_value 10)) all ∙ values-read done (all-weaker (λ n. n < 2 ^ 32) (λ n. n < 2 ^ 64) done (λ n h. omega (arith, h)) was.below) in
+    e ∙ ap (λ ns. old ++ map (shifted_value s) (places_in ns)) (sym same)

@@ -8,14 +8,14 @@ use Rattle.std.specs.Ordering.{is_lt, match_ordering}
 use Rattle.std.specs.declared.cmp.Ordering.{Ordering}
 use Rattle.std.specs.declared.cmp.Ordering.TheVariants.{Less, Equal, Greater}
 use Rattle.mr_bytes.specs.Order.{key_order}
-use Rattle.mr_jobs.specs.JobSpec.{JobSpec, counts}
+use Rattle.mr_jobs.specs.JobSpec.{JobSpec}
 use Rattle.mr_sequential.proofs.KeyLaws.{key_tie}
 use Rattle.mr_shards.specs.declared.merger.ShardText.{ShardText}
 use Rattle.mr_shards.specs.declared.window.Held.{Held}
 use Rattle.mr_shards.specs.declared.window.Place.{Place}
 use Rattle.mr_shards.specs.declared.window.Window.{Window}
 use Rattle.mr_shards.specs.Merged.{Group}
-use Rattle.mr_shards.specs.Lines.{before_last, group_in, groups_in, lines}
+use Rattle.mr_shards.specs.Lines.{before_last, group_in, groups_in, lines, joins}
 use Rattle.mr_shards.specs.Refused.{InTurn, IsRest}
 use Rattle.mr_shards.specs.Pieces.{AreTaken, AreWindows, Bound, HaveLines, IsBefore, IsTaken, IsWindow, OneGoes, Reading, are_last, before_at, behind, but_last, cut_before, cuts_before, front, is_past, last_key_in, least_last, lesser_place, next_bound, next_place, outputs_of, place_for}
 use Rattle.mr_shards.specs.Places.{shown}
@@ -266,7 +266,7 @@ module _ (job : JobSpec) where
         goes = inr s.goes;
       }
 
-  module _ (b : Option Bound) (hs : List Held) (rs : List Reading) (ws : List Window) (parted : counts job ≡ false)
+  module _ (b : Option Bound) (hs : List Held) (rs : List Reading) (ws : List Window) (parted : joins job ≡ false)
       (more : are_last ws ≡ false) (have : HaveLines ws)
       (t : AreTaken job b hs rs) (v : AreWindows rs ws) (all : AllByRecursion (λ (o : ShardText). IsRest job None o.text.now) (outputs_of rs)) where
     pub goes-to : (p : Bound) → option_map (place_for job) (least_last None 0 ws) ≡ Some p → Goes b p ws

@@ -2,7 +2,6 @@ pub mod NamedLemmas
 pub mod MergeLemmas
 pub mod MergedLaws
 pub mod ReadingLemmas
-pub mod IndexLemmas
 pub mod LineLemmas
 pub mod NumberLemmas
 pub mod FrontLemmas

@@ -1,8 +1,5 @@
 -- The lines of the portions' outputs, merged, are the output of the whole.
 use Rattle.std.proofs.Common.{◌≡◌, ℕ, ◌<◌, ◌^◌, Bool, List, [], ◌∷◌, ◌++◌, length, map, replicate, refl, sym, ◌∙◌, ap, subst, arith, inl, inr}
-use Rattle.std.specs.Prelude.{decimal}
-use Rattle.std.proofs.lemmas.List.{append_assoc}
-use Rattle.std.specs.Int.{IsInRange}
 use Rattle.std.specs.List.{AllByRecursion, flat_map}
 use Rattle.mr_bytes.specs.declared.Value.{Value}
 use Rattle.mr_bytes.specs.declared.Value.TheVariants.{One, At}
@@ -12,20 +9,19 @@ use Rattle.mr_bytes.specs.Order.{key_order}
 use Rattle.mr_bytes.proofs.ListLaws.{Has-all, Has-flat_map_from, all_from_Has}
 use Rattle.mr_shards.specs.declared.merger.ShardText.{ShardText}
 use Rattle.mr_jobs.specs.JobSpec.{JobSpec, RequestSpec, WordCount, LinesWith, Resources, InvertedIndex}
-use Rattle.mr_reduce.specs.Text.{comma_separated, file_in, files_line, files_of}
-use Rattle.mr_reduce.proofs.FileLemmas.{comma}
+use Rattle.mr_reduce.specs.Text.{file_in, files_line, files_of}
 use Rattle.mr_sequential.specs.Sequential.{sequential}
-use Rattle.mr_shards.specs.Lines.{HasLine, after_last, before_last, group_in, groups_in, numbers_in, places_in}
+use Rattle.mr_shards.specs.Lines.{HasLine, group_in, groups_in, places_in}
 use Rattle.mr_shards.specs.Merged.{Group, merged, texts, with_group}
 use Rattle.mr_shards.proofs.MergedLaws.{keys, merged-rise}
 use Rattle.mr_shards.proofs.MergeLemmas.{with_group-joined}
 use Rattle.mr_shards.proofs.PairLemmas.{IsCounted}
-use Rattle.mr_shards.proofs.ReadingLemmas.{Lacks-append, after-last, before-last, decimal-lacks, lines-next, lines-none, one_reading}
+use Rattle.mr_shards.proofs.ReadingLemmas.{index-line, lines-none, one_reading}
 use Rattle.mr_shards.proofs.WholeLaws.{IsFineGroup, all-texts, groups-fine, merged-append, one-each}
 use Rattle.mr_shards.specs.Portions.{Part, Portion, Shift, merged_portions, part_of, shift_of, shifted_group}
 use Rattle.mr_shards.specs.PortionLines.{LinesAreWhole, part_read}
 use Rattle.mr_shards.proofs.AlikeLemmas.{AreAlike, AreLikeParts, alike-portions, alike-texts, places-alike}
-use Rattle.mr_shards.proofs.FileNumberLemmas.{numbers_read, sorted-in, told-in}
+use Rattle.mr_shards.proofs.FileNumberLemmas.{sorted-in, told-in}
 use Rattle.mr_shards.proofs.PortionLaws.{merged_is_whole, outputs_are_texts}
 use Rattle.mr_shards.specs.Outputs.{AreOutputsOf, IsJudged, IsOutputOfAll, parts_in}
 use Rattle.mr_shards.proofs.ShiftLemmas.{shifted-rise}
@@ -70,41 +66,6 @@ place-lines literal fold [] all = tt
 place-lines literal fold (g ∷ gs) all =
     all-append (HasLine (LinesWith literal fold)) (one-each g.key g.values) (flat_map (λ (h : Group). one-each h.key h.values) gs)
     (each-line literal fold g.key g.values all.0.clear all.0.values) (place-lines literal fold gs all.1)
-
--- ---- lines of an index
-
-lf_other : IsInRange 48 57 10 → ⊥
-lf_other h = omega (arith, h.0)
-
-tab_other : IsInRange 48 57 9 → ⊥
-tab_other h = omega (arith, h.0)
-
-commas-lack : (b : ℕ) (ns : List ℕ) → (IsInRange 48 57 b → ⊥) → (44 ≡ b → ⊥) → AllByRecursion (λ n. n < 2 ^ 64) ns → Lacks b (flat_map comma ns)
-commas-lack b [] other ne small = tt
-commas-lack b (n ∷ ns) other ne small =
-    (ne, Lacks-append b (decimal n) (flat_map comma ns) (decimal-lacks b n other small.0) (commas-lack b ns other ne small.1))
-
-separated-lack : (b n : ℕ) (ns : List ℕ) → (IsInRange 48 57 b → ⊥) → (44 ≡ b → ⊥) → AllByRecursion (λ m. m < 2 ^ 64) (n ∷ ns) → Lacks b (comma_separated (n ∷ ns))
-separated-lack b n ns other ne small = Lacks-append b (decimal n) (flat_map comma ns) (decimal-lacks b n other small.0) (commas-lack b ns other ne small.1)
-
-line-text : (key told rest : List ℕ) → (key ++ 9 ∷ (told ++ 10 ∷ [])) ++ rest ≡ (key ++ 9 ∷ told) ++ 10 ∷ rest
-line-text key told rest =
-    append_assoc key (9 ∷ (told ++ 10 ∷ [])) rest ∙ ap (λ l. key ++ 9 ∷ l) (append_assoc told (10 ∷ []) rest) ∙ sym (append_assoc key (9 ∷ told) (10 ∷ rest))
-
-index-line : (keep_case : Bool) (key : List ℕ) (n : ℕ) (ns rest : List ℕ) → Lacks 10 key → AllByRecursion (λ m. m < 2 ^ 64) (n ∷ ns)
-    → groups_in (InvertedIndex keep_case) (files_line key (n ∷ ns) ++ rest) ≡ record { key = key; values = places_in (n ∷ ns) } ∷ groups_in (InvertedIndex keep_case) rest
-index-line keep_case key n ns rest clear small =
-    let job : JobSpec = InvertedIndex keep_case in
-    let told : List ℕ = comma_separated (n ∷ ns) in
-    let no_lf : Lacks 10 told = separated-lack 10 n ns lf_other (λ e. omega (arith, e)) small in
-    let no_tab : Lacks 9 told = separated-lack 9 n ns tab_other (λ e. omega (arith, e)) small in
-    let line : List ℕ = key ++ 9 ∷ told in
-    let first : before_last 9 line ≡ key = before-last 9 key told no_tab in
-    let second : places_in (numbers_in (after_last 9 line)) ≡ places_in (n ∷ ns) =
-    ap (λ l. places_in (numbers_in l)) (after-last 9 key told no_tab) ∙ ap places_in (numbers_read n ns small) in
-    ap (groups_in job) (line-text key told rest)
-    ∙ ap (map (group_in job)) (lines-next line rest (Lacks-append 10 key (9 ∷ told) clear (λ e. omega (arith, e), no_lf)))
-    ∙ (λ i. record { key = first i; values = second i } ∷ groups_in job rest)
 
 has-some : (xs : List ℕ) (x : ℕ) → Has xs x → (n : ℕ) × (ns : List ℕ) × (xs ≡ n ∷ ns)
 has-some [] x h = absurd h

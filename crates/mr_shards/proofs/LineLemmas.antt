@@ -1,32 +1,35 @@
 -- Lines, as the code reads and writes them.
 use Rattle.std.proofs.Common.{◌≡◌, ℕ, zero, suc, ◌+◌, ◌-◌, ◌<◌, ◌≤◌, ◌++◌, List, [], ◌∷◌, length, get_or, take, drop, refl, ap, sym, ◌∙◌, subst, arith, eq-eqb, inl, inr}
-use Rattle.std.proofs.lemmas.Bool.{cases_lt}
 use Rattle.std.proofs.lemmas.List.{take_all, length-drop}
 use Rattle.memchr.specs.Find.{Nowhere, Passes, is_byte}
 use Rattle.std.proofs.Common.{◌^◌, Bool, true, false, map, replicate}
 use Rattle.std.specs.Prelude.{decimal}
-use Rattle.std.specs.List.{flat_map}
 use Rattle.std.proofs.lemmas.List.{replicate-append-replicate, length-replicate, append-nil}
+use Rattle.mr_bytes.specs.declared.Value.{Value}
 use Rattle.mr_bytes.specs.declared.Value.TheVariants.{One, At}
-use Rattle.mr_jobs.specs.JobSpec.{JobSpec, WordCount, LinesWith, Resources, InvertedIndex, counts}
+use Rattle.mr_jobs.specs.JobSpec.{JobSpec, WordCount, LinesWith, Resources, InvertedIndex, counts, has_lines}
 use Rattle.std.specs.Ordering.{nat_cmp}
-use Rattle.mr_bytes.specs.Lists.{sorted}
-use Rattle.mr_reduce.specs.Text.{file_in, files_line, place_line, text_of, total_line}
+use Rattle.mr_bytes.specs.Lists.{Rises}
+use Rattle.mr_reduce.specs.Text.{comma_separated, files_line, place_line, total_line}
+use Rattle.std.specs.Borrow.{Bor}
+use Rattle.std.specs.List.{AllByRecursion}
+use Rattle.mr_bytes.proofs.ListLaws.{Has-all, Has-map, Has-map_from}
+use Rattle.mr_shards.proofs.ShiftLemmas.{values-still}
 use Rattle.std.specs.Int.{IsInRange}
 use Rattle.std.proofs.Common.{◌≢◌}
 use Rattle.mr_jobs.specs.Url.{before_byte}
 use Rattle.mr_bytes.specs.Lists.{Has}
 use Rattle.mr_shards.specs.Refused.{AreInFiles}
-use Rattle.mr_shards.specs.Lines.{after_first, after_last, groups_in}
+use Rattle.mr_shards.specs.Lines.{after_first, after_last, groups_in, numbers_in, places_in}
 use Rattle.mr_shards.specs.Merged.{group_text}
 use Rattle.std.proofs.Common.{not}
 use Rattle.mr_sequential.proofs.KeyLaws.{bytes_eq-is}
 use Rattle.std.specs.Str.{bytes_eq}
-use Rattle.mr_shards.specs.Views.{BeginsWithLine, IsParsed, IsFor, IsSameKind, values_of}
+use Rattle.mr_shards.specs.Views.{BeginsWithLine, IsListTo, IsParsed, IsFor, IsUnshifted, values_of, values_waiting}
 use Rattle.mr_shards.specs.declared.line.Tally.{Tally}
-use Rattle.mr_shards.specs.declared.line.Tally.TheVariants.{Total, Place}
-use Rattle.mr_shards.proofs.ReadingLemmas.{total-read, place-read, total-first, place-first, value-of, decimal-lacks, Lacks-append, before-first, after-first, after-last}
-use Rattle.mr_shards.specs.Portions.{Shift, shifted_value}
+use Rattle.mr_shards.specs.declared.line.Tally.TheVariants.{Total, Place, Files}
+use Rattle.mr_shards.proofs.ReadingLemmas.{files-are, index-line, line-text, numbers_read, separated-lack, total-read, place-read, total-first, place-first, value-of, decimal-lacks, Lacks-append, before-first, after-first, after-last}
+use Rattle.mr_shards.specs.Portions.{Shift, no_shift, shifted_value}
 use Rattle.mr_bytes.specs.Cut.{Lacks}
 
 pub lacks_front : (mark at : ℕ) (text : List ℕ) → at ≤ length text → Nowhere (Passes (is_byte mark) text) 0 at → Lacks mark (take at text)
@@ -47,21 +50,6 @@ behind at text = take_all (length text - (at + 1)) (drop (at + 1) text) (omega (
 pub replicate-moved : (s : Shift) (n : ℕ) → replicate n One ≡ map (shifted_value s) (replicate n One)
 replicate-moved s zero = refl
 replicate-moved s (suc n) = ap (λ l. One ∷ l) (replicate-moved s n)
-
-no-places : (key : List ℕ) (n : ℕ) → flat_map (place_line key) (replicate n One) ≡ []
-no-places key zero = refl
-no-places key (suc n) = no-places key n
-
-no-files : (n : ℕ) → flat_map file_in (replicate n One) ≡ []
-no-files zero = refl
-no-files (suc n) = no-files n
-
--- a job that doesn't count writes for values without a place what it writes for none
-pub nothing_told : (job : JobSpec) (key : List ℕ) (n : ℕ) → counts job ≡ false → group_text job (record { key = key; values = replicate n One }) ≡ text_of job key []
-nothing_told (WordCount keep_case) key n e = absurd cc
-nothing_told (LinesWith literal fold) key n e = no-places key n
-nothing_told Resources key n e = absurd cc
-nothing_told (InvertedIndex keep_case) key n e = ap (λ fs. files_line key (sorted nat_cmp fs)) (no-files n)
 
 pub total_told : (job : JobSpec) (key : List ℕ) (n : ℕ) → counts job ≡ true → group_text job (record { key = key; values = replicate n One }) ≡ total_line key n
 total_told (WordCount keep_case) key n e = ap (total_line key) (length-replicate n One)
@@ -88,19 +76,62 @@ cut-whole text line key told rest t h e = h.first ∙ ap (λ l. l ++ 10 ∷ rest
 told-places : (literal : List ℕ) (fold : Bool) (key : List ℕ) (file offset : ℕ) → place_line key (At file offset) ≡ group_text (LinesWith literal fold) (record { key = key; values = At file offset ∷ [] })
 told-places literal fold key file offset = sym (append-nil (place_line key (At file offset)))
 
+-- the files that a list names, as places
+numbers-small : (n : ℕ) (ns : List ℕ) → n ≤ 2 ^ 32 → AllByRecursion (λ m. m < n) ns → AllByRecursion (λ m. m < 2 ^ 64) ns
+numbers-small n [] fits all = tt
+numbers-small n (m ∷ ms) fits all = (omega (arith, fits, all.0), numbers-small n ms fits all.1)
+
+pub list-numbers : (last : ℕ) (list : List ℕ) → (is : IsListTo last list) → numbers_in list ≡ is.1.0
+list-numbers last list is = by is.1.0 is.1.1.some is.1.1.text (numbers-small (last + 1) is.1.0 (omega (arith, is.0)) is.1.1.below)
+  where
+    by : (ns : List ℕ) → 0 < length ns → list ≡ comma_separated ns → AllByRecursion (λ m. m < 2 ^ 64) ns → numbers_in list ≡ ns
+    by [] some text small = absurd (omega (arith, some))
+    by (n ∷ ns) some text small = ap numbers_in text ∙ numbers_read n ns small
+
+-- at least one, rising
+pub list-told : (list : Bor (List ℕ)) (last : ℕ) (moved : Shift) (told : List ℕ) → (told ≡ list.now) × (moved ≡ no_shift) × IsListTo last told
+    → (n : ℕ) × (ns : List ℕ) × Rises nat_cmp (n ∷ ns) × AllByRecursion (λ m. m < 2 ^ 64) (n ∷ ns) × (told ≡ comma_separated (n ∷ ns))
+    × (values_of (Files list last moved) ≡ places_in (n ∷ ns))
+list-told list last moved told is = by is.2.1.0 is.2.1.1.some is.2.1.1.rise (numbers-small (last + 1) is.2.1.0 (omega (arith, is.2.0)) is.2.1.1.below) is.2.1.1.text (list-numbers last told is.2)
+  where
+    by : (ns : List ℕ) → 0 < length ns → Rises nat_cmp ns → AllByRecursion (λ m. m < 2 ^ 64) ns → told ≡ comma_separated ns → numbers_in told ≡ ns
+        → (n : ℕ) × (ms : List ℕ) × Rises nat_cmp (n ∷ ms) × AllByRecursion (λ m. m < 2 ^ 64) (n ∷ ms) × (told ≡ comma_separated (n ∷ ms))
+        × (values_of (Files list last moved) ≡ places_in (n ∷ ms))
+    by [] some rise small text numbers = absurd (omega (arith, some))
+    by (n ∷ ns) some rise small text numbers = (
+      n,
+      ns,
+      rise,
+      small,
+      text,
+      ap (λ (s : Shift). map (shifted_value s) (places_in (numbers_in list.now))) is.1 ∙ values-still (places_in (numbers_in list.now))
+          ∙ ap (λ l. places_in (numbers_in l)) (sym is.0) ∙ ap places_in numbers,
+    )
+
 -- its text
 pub cut-text : (job : JobSpec) (t : Tally) (text line key told rest : List ℕ) → IsCut text line key told rest → IsParsed job t told
     → text ≡ group_text job (record { key = key; values = values_of t }) ++ rest
 cut-text (WordCount keep_case) (Total n) text line key told rest h is =
     cut-whole text line key told rest (decimal n) h is.0 ∙ sym (total-first key n rest) ∙ ap (λ l. l ++ rest) (sym (total_told (WordCount keep_case) key n refl))
 cut-text (WordCount keep_case) (Place file offset) text line key told rest h is = absurd is
+cut-text (WordCount keep_case) (Files list last moved) text line key told rest h is = absurd is
 cut-text (LinesWith literal fold) (Total n) text line key told rest h is = absurd is
 cut-text (LinesWith literal fold) (Place file offset) text line key told rest h is =
     cut-whole text line key told rest (decimal file ++ 58 ∷ decimal offset) h is.0 ∙ sym (place-first key file offset rest) ∙ ap (λ l. l ++ rest) (told-places literal fold key file offset)
+cut-text (LinesWith literal fold) (Files list last moved) text line key told rest h is = absurd is
 cut-text Resources (Total n) text line key told rest h is =
     cut-whole text line key told rest (decimal n) h is.0 ∙ sym (total-first key n rest) ∙ ap (λ l. l ++ rest) (sym (total_told Resources key n refl))
 cut-text Resources (Place file offset) text line key told rest h is = absurd is
-cut-text (InvertedIndex keep_case) t text line key told rest h is = absurd is
+cut-text Resources (Files list last moved) text line key told rest h is = absurd is
+cut-text (InvertedIndex keep_case) (Total n) text line key told rest h is = absurd is
+cut-text (InvertedIndex keep_case) (Place file offset) text line key told rest h is = absurd is
+cut-text (InvertedIndex keep_case) (Files list last moved) text line key told rest h is =
+    let w = list-told list last moved told is in
+    let job : JobSpec = InvertedIndex keep_case in
+    cut-whole text line key told rest (comma_separated (w.0 ∷ w.1)) h w.4
+    ∙ sym (line-text key (comma_separated (w.0 ∷ w.1)) rest)
+    ∙ ap (λ fs. files_line key fs ++ rest) (sym (files-are (w.0 ∷ w.1) w.2))
+    ∙ ap (λ vs. group_text job (record { key = key; values = vs }) ++ rest) (sym w.5)
 
 -- and what it is read as
 pub cut-read : (job : JobSpec) (t : Tally) (text line key told rest : List ℕ) → IsCut text line key told rest → IsParsed job t told
@@ -110,25 +141,49 @@ cut-read (WordCount keep_case) (Total n) text line key told rest h is =
     ∙ total-read (WordCount keep_case) key n rest (cut-clear text line key told rest h) is.1
     ∙ (let e = ap (λ m. replicate m One) (value-of n is.1) in λ i. record { key = key; values = e i } ∷ groups_in (WordCount keep_case) rest)
 cut-read (WordCount keep_case) (Place file offset) text line key told rest h is = absurd is
+cut-read (WordCount keep_case) (Files list last moved) text line key told rest h is = absurd is
 cut-read (LinesWith literal fold) (Total n) text line key told rest h is = absurd is
 cut-read (LinesWith literal fold) (Place file offset) text line key told rest h is =
     ap (groups_in (LinesWith literal fold)) (cut-whole text line key told rest (decimal file ++ 58 ∷ decimal offset) h is.0 ∙ sym (place-first key file offset rest))
     ∙ place-read literal fold key file offset rest (cut-clear text line key told rest h) (omega (arith, is.1)) is.2
+cut-read (LinesWith literal fold) (Files list last moved) text line key told rest h is = absurd is
 cut-read Resources (Total n) text line key told rest h is =
     ap (groups_in Resources) (cut-whole text line key told rest (decimal n) h is.0 ∙ sym (total-first key n rest))
     ∙ total-read Resources key n rest (cut-clear text line key told rest h) is.1
     ∙ (let e = ap (λ m. replicate m One) (value-of n is.1) in λ i. record { key = key; values = e i } ∷ groups_in Resources rest)
 cut-read Resources (Place file offset) text line key told rest h is = absurd is
-cut-read (InvertedIndex keep_case) t text line key told rest h is = absurd is
+cut-read Resources (Files list last moved) text line key told rest h is = absurd is
+cut-read (InvertedIndex keep_case) (Total n) text line key told rest h is = absurd is
+cut-read (InvertedIndex keep_case) (Place file offset) text line key told rest h is = absurd is
+cut-read (InvertedIndex keep_case) (Files list last moved) text line key told rest h is =
+    let w = list-told list last moved told is in
+    let job : JobSpec = InvertedIndex keep_case in
+    ap (groups_in job) (cut-whole text line key told rest (comma_separated (w.0 ∷ w.1)) h w.4 ∙ sym (line-text key (comma_separated (w.0 ∷ w.1)) rest))
+    ∙ index-line keep_case key w.0 w.1 rest (cut-clear text line key told rest h) w.3
+    ∙ (λ i. record { key = key; values = sym w.5 i } ∷ groups_in job rest)
 
 pub told-for : (job : JobSpec) (t : Tally) (told : List ℕ) → IsParsed job t told → IsFor job t
 told-for (WordCount keep_case) (Total n) told h = tt
 told-for (WordCount keep_case) (Place file offset) told h = h
+told-for (WordCount keep_case) (Files list last moved) told h = h
 told-for (LinesWith literal fold) (Total n) told h = h
 told-for (LinesWith literal fold) (Place file offset) told h = tt
+told-for (LinesWith literal fold) (Files list last moved) told h = h
 told-for Resources (Total n) told h = tt
 told-for Resources (Place file offset) told h = h
-told-for (InvertedIndex keep_case) t told h = h
+told-for Resources (Files list last moved) told h = h
+told-for (InvertedIndex keep_case) (Total n) told h = h
+told-for (InvertedIndex keep_case) (Place file offset) told h = h
+told-for (InvertedIndex keep_case) (Files list last moved) told h =
+    (subst (IsListTo last) h.0 h.2, (let none : moved.files ≡ 0 = ap (λ (s : Shift). s.files) h.1 in omega (arith, none, h.2.0)))
+
+pub told-still : (job : JobSpec) (t : Tally) (told : List ℕ) → IsParsed job t told → IsUnshifted t
+told-still job (Total n) told h = tt
+told-still job (Place file offset) told h = tt
+told-still (WordCount keep_case) (Files list last moved) told h = absurd h
+told-still (LinesWith literal fold) (Files list last moved) told h = absurd h
+told-still Resources (Files list last moved) told h = absurd h
+told-still (InvertedIndex keep_case) (Files list last moved) told h = (h.1, subst (IsListTo last) h.0 h.2)
 
 pub same_key : (j k : List ℕ) → not (bytes_eq j k) ≡ false → j ≡ k
 same_key j k e = bytes_eq-is j k (by (bytes_eq j k) e)
@@ -137,28 +192,20 @@ same_key j k e = bytes_eq-is j k (by (bytes_eq j k) e)
     by true h = refl
     by false h = absurd (cc h)
 
+-- no line of an index tells so
+pub no-list : (job : JobSpec) (told : List ℕ) → counts job ≡ false → has_lines job ≡ false → ((n : ℕ) → IsListTo n told → ⊥) → (t : Tally) → IsParsed job t told → ⊥
+no-list (WordCount keep_case) told c l none t h = absurd (cc c)
+no-list (LinesWith literal fold) told c l none t h = absurd (cc l)
+no-list Resources told c l none t h = absurd (cc c)
+no-list (InvertedIndex keep_case) told c l none (Total n) h = h
+no-list (InvertedIndex keep_case) told c l none (Place file offset) h = h
+no-list (InvertedIndex keep_case) told c l none (Files list last moved) h = none last h.2
+
 -- two totals of one key
-pub totals : (t u : Tally) (m n total : ℕ) → t ≡ Total m → u ≡ Total n → total ≡ m + n → replicate total One ≡ values_of t ++ values_of u
-totals t u m n total a b e =
+pub totals : (t u : Tally) (places : List Value) (m n total : ℕ) → t ≡ Total m → u ≡ Total n → total ≡ m + n → replicate total One ≡ values_waiting t places ++ values_of u
+totals t u places m n total a b e =
     ap (λ k. replicate k One) e ∙ sym (replicate-append-replicate m n One)
-    ∙ (λ i. values_of (sym a i) ++ values_of (sym b i))
-
--- and two that don't fit
-pub overflow : (t u : Tally) (m n : ℕ) → t ≡ Total m → u ≡ Total n → (m + n < 2 ^ 64 → ⊥) → 2 ^ 64 ≤ length (values_of t) + length (values_of u)
-overflow t u m n a b h =
-    let one : length (values_of t) ≡ m = ap (λ v. length (values_of v)) a ∙ length-replicate m One in
-    let two : length (values_of u) ≡ n = ap (λ v. length (values_of v)) b ∙ length-replicate n One in
-    let large : 2 ^ 64 ≤ m + n = elim (cases_lt (m + n) (2 ^ 64)) [ inl l ↦ absurd (h l) | inr g ↦ g ] in
-    omega (arith, one, two, large)
-
-pub totals-alike : (t : Tally) (m total : ℕ) → t ≡ Total m → IsSameKind t (Total total)
-totals-alike t m total e = subst (λ u. IsSameKind u (Total total)) (sym e) tt
-
--- where no place is told, that is written which no values have
-pub put-nothing : (job : JobSpec) (key out new : List ℕ) (t : Tally) (n : ℕ) → t ≡ Total n → counts job ≡ false → new ≡ out ++ text_of job key []
-    → new ≡ out ++ group_text job (record { key = key; values = values_of t })
-put-nothing job key out new t n e is put =
-    put ∙ sym (ap (λ u. out ++ group_text job (record { key = key; values = values_of u })) e ∙ ap (λ l. out ++ l) (nothing_told job key n is))
+    ∙ (λ i. values_waiting (sym a i) places ++ values_of (sym b i))
 
 -- a total tells no place
 pub total-nowhere : (count n : ℕ) (t : Tally) → t ≡ Total n → AreInFiles count (values_of t)
@@ -169,12 +216,32 @@ total-nowhere count n t e file offset h = by n (subst (λ (u : Tally). Has (valu
     by (suc k) (inl is) = absurd (cc is)
     by (suc k) (inr a) = by k a
 
-pub place-own : (count file offset : ℕ) (t : Tally) → t ≡ Place file offset → file < count → AreInFiles count (values_of t)
-place-own count file offset t e less f o h = by (subst (λ (u : Tally). Has (values_of u) (At f o)) e h)
-  where
-    by : Has (At file offset ∷ []) (At f o) → f < count
-    by (inl is) = (let same : file ≡ f = cc is in omega (arith, less, same))
-    by (inr none) = absurd none
+-- a list tells places in its files, the last one too
+list-values : (list : Bor (List ℕ)) (last : ℕ) (moved : Shift) → (is : IsUnshifted (Files list last moved)) → values_of (Files list last moved) ≡ places_in is.1.1.0
+list-values list last moved is =
+    ap (λ (s : Shift). map (shifted_value s) (places_in (numbers_in list.now))) is.0 ∙ values-still (places_in (numbers_in list.now))
+    ∙ ap places_in (list-numbers last list.now is.1)
+
+pub list-own : (count : ℕ) (list : Bor (List ℕ)) (last : ℕ) (moved : Shift) (t : Tally) → t ≡ Files list last moved → IsUnshifted t → last < count → AreInFiles count (values_of t)
+list-own count list last moved t e still less f o h =
+    let is : IsUnshifted (Files list last moved) = subst IsUnshifted e still in
+    let there : Has (places_in is.1.1.0) (At f o) = subst (λ vs. Has vs (At f o)) (ap values_of e ∙ list-values list last moved is) h in
+    let w = Has-map_from (λ file. At file 0) is.1.1.0 (At f o) there in
+    let low : w.0 < last + 1 = Has-all (λ n. n < last + 1) is.1.1.0 w.0 is.1.1.1.below w.1 in
+    let same : w.0 ≡ f = cc w.2 in
+    omega (arith, low, same, less)
+
+pub list-has : (list : Bor (List ℕ)) (last : ℕ) (moved : Shift) → IsUnshifted (Files list last moved) → Has (values_of (Files list last moved)) (At last 0)
+list-has list last moved is =
+    subst (λ vs. Has vs (At last 0)) (sym (list-values list last moved is)) (Has-map (λ file. At file 0) is.1.1.0 last is.1.1.2)
+
+-- moved, it tells them moved
+pub list-moved : (list : Bor (List ℕ)) (last : ℕ) (before moved : Shift) (t : Tally) → t ≡ Files list last moved → IsUnshifted t
+    → values_of (Files list last before) ≡ map (shifted_value before) (values_of t)
+list-moved list last before moved t e still =
+    let is : IsUnshifted (Files list last moved) = subst IsUnshifted e still in
+    ap (λ vs. map (shifted_value before) vs)
+    (sym (ap values_of e ∙ ap (λ (s : Shift). map (shifted_value s) (places_in (numbers_in list.now))) is.0 ∙ values-still (places_in (numbers_in list.now))))
 
 -- a total is where it is, however places are moved
 pub total-moved : (s : Shift) (n : ℕ) (t : Tally) → t ≡ Total n → replicate n One ≡ map (shifted_value s) (values_of t)
@@ -206,19 +273,26 @@ Lacks-there b (x ∷ xs) ys h = Lacks-there b xs ys h.1
 pub there : (b : ℕ) (text xs ys : List ℕ) → text ≡ xs ++ b ∷ ys → Lacks b text → ⊥
 there b text xs ys e h = Lacks-there b xs ys (subst (Lacks b) e h)
 
-told-lacks : (job : JobSpec) (t : Tally) (told : List ℕ) (b : ℕ) → (IsInRange 48 57 b → ⊥) → b ≢ 58 → IsParsed job t told → Lacks b told
-told-lacks (WordCount keep_case) (Total n) told b digit colon is = subst (Lacks b) (sym is.0) (decimal-lacks b n digit is.1)
-told-lacks (WordCount keep_case) (Place file offset) told b digit colon is = absurd is
-told-lacks (LinesWith literal fold) (Total n) told b digit colon is = absurd is
-told-lacks (LinesWith literal fold) (Place file offset) told b digit colon is =
+told-lacks : (job : JobSpec) (t : Tally) (told : List ℕ) (b : ℕ) → (IsInRange 48 57 b → ⊥) → b ≢ 58 → b ≢ 44 → IsParsed job t told → Lacks b told
+told-lacks (WordCount keep_case) (Total n) told b digit colon comma is = subst (Lacks b) (sym is.0) (decimal-lacks b n digit is.1)
+told-lacks (WordCount keep_case) (Place file offset) told b digit colon comma is = absurd is
+told-lacks (WordCount keep_case) (Files list last moved) told b digit colon comma is = absurd is
+told-lacks (LinesWith literal fold) (Total n) told b digit colon comma is = absurd is
+told-lacks (LinesWith literal fold) (Place file offset) told b digit colon comma is =
     subst (Lacks b) (sym is.0) (Lacks-append b (decimal file) (58 ∷ decimal offset) (decimal-lacks b file digit (omega (arith, is.1))) (λ e. colon (sym e), decimal-lacks b offset digit is.2))
-told-lacks Resources (Total n) told b digit colon is = subst (Lacks b) (sym is.0) (decimal-lacks b n digit is.1)
-told-lacks Resources (Place file offset) told b digit colon is = absurd is
-told-lacks (InvertedIndex keep_case) t told b digit colon is = absurd is
+told-lacks (LinesWith literal fold) (Files list last moved) told b digit colon comma is = absurd is
+told-lacks Resources (Total n) told b digit colon comma is = subst (Lacks b) (sym is.0) (decimal-lacks b n digit is.1)
+told-lacks Resources (Place file offset) told b digit colon comma is = absurd is
+told-lacks Resources (Files list last moved) told b digit colon comma is = absurd is
+told-lacks (InvertedIndex keep_case) (Total n) told b digit colon comma is = absurd is
+told-lacks (InvertedIndex keep_case) (Place file offset) told b digit colon comma is = absurd is
+told-lacks (InvertedIndex keep_case) (Files list last moved) told b digit colon comma is =
+    let w = list-told list last moved told is in
+    subst (Lacks b) (sym w.4) (separated-lack b w.0 w.1 digit (λ e. comma (sym e)) w.3)
 
 begun-line : (job : JobSpec) (text : List ℕ) → (h : BeginsWithLine job text) → Lacks 10 (h.key ++ 9 ∷ h.told)
 begun-line job text h =
-    Lacks-append 10 h.key (9 ∷ h.told) h.clear (λ e. omega (arith, e), told-lacks job h.tally h.told 10 (λ r. omega (arith, r.0)) (λ e. omega (arith, e)) h.tells)
+    Lacks-append 10 h.key (9 ∷ h.told) h.clear (λ e. omega (arith, e), told-lacks job h.tally h.told 10 (λ r. omega (arith, r.0)) (λ e. omega (arith, e)) (λ e. omega (arith, e)) h.tells)
 
 pub begun-same : (job : JobSpec) (text line rest : List ℕ) (h : BeginsWithLine job text) → text ≡ line ++ 10 ∷ rest → Lacks 10 line → line ≡ h.key ++ 9 ∷ h.told
 begun-same job text line rest h e clear =
@@ -228,8 +302,8 @@ pub begun-told : (job : JobSpec) (text line rest key told : List ℕ) (h : Begin
     → line ≡ key ++ 9 ∷ told → Lacks 9 told → told ≡ h.told
 begun-told job text line rest key told h e clear last whole =
     sym (after-last 9 key told whole) ∙ ap (after_last 9) (sym last ∙ begun-same job text line rest h e clear)
-    ∙ after-last 9 h.key h.told (told-lacks job h.tally h.told 9 (λ r. omega (arith, r.0)) (λ e'. omega (arith, e')) h.tells)
+    ∙ after-last 9 h.key h.told (told-lacks job h.tally h.told 9 (λ r. omega (arith, r.0)) (λ e'. omega (arith, e')) (λ e'. omega (arith, e')) h.tells)
 
 pub begun : (job : JobSpec) (t : Tally) (key told : List ℕ) → Lacks 10 key → IsParsed job t told → Lacks 10 (key ++ 9 ∷ told)
 begun job t key told clear is =
-    Lacks-append 10 key (9 ∷ told) clear (λ e. omega (arith, e), told-lacks job t told 10 (λ r. omega (arith, r.0)) (λ e. omega (arith, e)) is)
+    Lacks-append 10 key (9 ∷ told) clear (λ e. omega (arith, e), told-lacks job t told 10 (λ r. omega (arith, r.0)) (λ e. omega (arith, e)) (λ e. omega (arith, e)) is)

@@ -1,5 +1,5 @@
 -- What the merge keeps: what is written, with what waits and what is left, is the text of the merged parts.
-use Rattle.std.proofs.Common.{Bool, ◌≡◌, ℕ, ◌+◌, ◌<◌, ◌++◌, List, [], ◌∷◌, length, get_or, take, drop, refl, ap, sym, ◌∙◌, subst, inl, inr, arith, Option, None, Some, map}
+use Rattle.std.proofs.Common.{Bool, false, ◌≡◌, ℕ, ◌+◌, ◌<◌, ◌++◌, List, [], ◌∷◌, length, get_or, take, drop, refl, ap, sym, ◌∙◌, subst, inl, inr, arith, Option, None, Some, map}
 use Rattle.std.proofs.lemmas.List.{append_assoc, map-append, take_more, drop_more, length-append}
 use Rattle.std.proofs.lemmas.Cmp.{nat_list_cmp_total}
 use Rattle.std.specs.List.{AllByRecursion, flat_map}
@@ -15,14 +15,12 @@ use Rattle.mr_bytes.proofs.ListLaws.{Has-all, all_from_Has}
 use Rattle.mr_sequential.proofs.SourceLemmas.{flat_map-append}
 use Rattle.mr_shards.specs.declared.cursor.Cursor.{Cursor}
 use Rattle.mr_shards.specs.declared.line.Line.{Line}
-use Rattle.mr_shards.specs.declared.line.Tally.{Tally}
-use Rattle.mr_shards.specs.declared.line.Tally.TheVariants.{Total, Place}
 use Rattle.mr_shards.specs.declared.merger.ShardText.{ShardText}
 use Rattle.mr_shards.specs.Merged.{Group, group_text, texts, joined, with_group, merged}
-use Rattle.mr_shards.specs.Lines.{groups_in, group_in, NoneFalls}
+use Rattle.mr_shards.specs.Lines.{groups_in, group_in, joins, NoneFalls}
 use Rattle.mr_shards.specs.Refused.{AreInFiles, AreRead, IsShardText}
-use Rattle.mr_shards.specs.Views.{group_of, IsFor, IsPlace, IsSameKind}
-use Rattle.mr_shards.specs.Cursors.{headed, left, IsLineFor, IsHead, IsHeadFor, Goes, with_waiting}
+use Rattle.mr_shards.specs.Views.{group_of}
+use Rattle.mr_shards.specs.Cursors.{headed, left, IsHead, IsHeadFor, Goes, with_waiting}
 use Rattle.mr_shards.specs.Outputs.{parts_in, Stands, AreOpened}
 use Rattle.mr_shards.proofs.MergedLaws.{keys, with_group-keys}
 use Rattle.mr_shards.proofs.MergeLemmas.{merged_groups-rise, with_group-joined, in_front}
@@ -30,25 +28,13 @@ use Rattle.mr_shards.proofs.ReadingLemmas.{lines-none}
 use Rattle.mr_shards.proofs.TotalLemmas.{IsWithin, within-first, within-step}
 use Rattle.mr_shards.specs.Portions.{Shift, behind, past_shard, merged_groups, merged_portions, no_shift, shifted_group, shifted_parts}
 use Rattle.mr_shards.proofs.ShiftLemmas.{merged_at_once}
-use Rattle.mr_shards.proofs.StepLemmas.{IsLeast, NotLess, NoneBefore, less-not, not_less-differs, turned, IsBest, Step, step-kinds, step-for, step-stands, step-pull, step-behind, step-at, merged-none_before}
+use Rattle.mr_shards.proofs.StepLemmas.{IsLeast, NotLess, NoneBefore, less-not, not_less-differs, turned, IsBest, Step, step-kinds, step-stands, step-pull, step-behind, step-at, merged-none_before}
 
 -- ---- the line that waits
 
-abbrev pub IsBelow : JobSpec → Option Line → List Cursor → Type 0
+abbrev pub IsBelow : JobSpec → Option Group → List Cursor → Type 0
 IsBelow job None cs = Unit {0}
-IsBelow job (Some w) cs = AllByRecursion (NoneBefore w.key.now) (map (left job) cs)
-
-kind-same : (job : JobSpec) (t u : Tally) → IsSameKind t u → IsFor job t → IsFor job u
-kind-same (WordCount keep_case) (Total m) (Total n) s f = tt
-kind-same (WordCount keep_case) (Total m) (Place file offset) s f = absurd s
-kind-same (WordCount keep_case) (Place file offset) u s f = absurd f
-kind-same (LinesWith literal fold) (Total m) u s f = absurd f
-kind-same (LinesWith literal fold) (Place file offset) (Total n) s f = absurd s
-kind-same (LinesWith literal fold) (Place file offset) (Place file' offset') s f = tt
-kind-same Resources (Total m) (Total n) s f = tt
-kind-same Resources (Total m) (Place file offset) s f = absurd s
-kind-same Resources (Place file offset) u s f = absurd f
-kind-same (InvertedIndex keep_case) t u s f = absurd f
+IsBelow job (Some w) cs = AllByRecursion (NoneBefore w.key) (map (left job) cs)
 
 joined-text : (literal : List ℕ) (fold : Bool) (g h : Group) → g.key ≡ h.key
     → group_text (LinesWith literal fold) (joined g h) ≡ group_text (LinesWith literal fold) g ++ group_text (LinesWith literal fold) h
@@ -70,13 +56,12 @@ front-places literal fold g (h ∷ hs) all = by (key_order g.key h.key) refl
         ∙ append_assoc (group_text (LinesWith literal fold) g) (group_text (LinesWith literal fold) h) (texts (LinesWith literal fold) hs)
     by Greater e = absurd (all.0 (turned g.key h.key e))
 
-front-place : (job : JobSpec) (t : Tally) (g : Group) (gs : List Group) → IsFor job t → IsPlace t → AllByRecursion (λ k. NotLess k g.key) (keys gs)
+front-place : (job : JobSpec) (g : Group) (gs : List Group) → joins job ≡ false → AllByRecursion (λ k. NotLess k g.key) (keys gs)
     → texts job (with_group g gs) ≡ group_text job g ++ texts job gs
-front-place job (Total n) g gs f p all = absurd p
-front-place (WordCount keep_case) (Place file offset) g gs f p all = absurd f
-front-place (LinesWith literal fold) (Place file offset) g gs f p all = front-places literal fold g gs all
-front-place Resources (Place file offset) g gs f p all = absurd f
-front-place (InvertedIndex keep_case) (Place file offset) g gs f p all = absurd f
+front-place (WordCount keep_case) g gs lines all = absurd (cc lines)
+front-place (LinesWith literal fold) g gs lines all = front-places literal fold g gs all
+front-place Resources g gs lines all = absurd (cc lines)
+front-place (InvertedIndex keep_case) g gs lines all = absurd (cc lines)
 
 -- keys of a group and those behind it
 pub with_group-behind : (k : List ℕ) (g : Group) (gs : List Group) (P : List ℕ → Type 0) → P g.key → AllByRecursion P (keys gs) → AllByRecursion P (keys (with_group g gs))
@@ -96,85 +81,75 @@ less-back w q k f less = by (key_order k q) refl
     by Equal e = ap (λ (j : List ℕ). key_order j w) (key_tie k q e) ∙ less
     by Greater e = absurd (f (turned k q e))
 
--- what a line does to what is written
-module _ (job : JobSpec) (line l : Line) (gs : List Group) (old new : List ℕ) where
-  pub goes-text : (waiting : Option Line) → Goes job waiting line l old new → IsLineFor job waiting → IsFor job line.tally
-      → Rises key_order (keys gs) → AllByRecursion (λ k. NotLess k line.key.now) (keys gs) → ((w : Line) → waiting ≡ Some w → NotLess line.key.now w.key.now)
-      → new ++ texts job (with_group (group_of l) gs) ≡ old ++ texts job (with_waiting waiting (with_group (group_of line) gs))
-  goes-text None g wf lf rise behind below =
-      λ i. g.1 i ++ texts job (with_group (group_of (g.0 i)) gs)
-  goes-text (Some w) (inl g) wf lf rise behind below =
-      ap (λ (o : List ℕ). o ++ texts job (with_group (group_of l) gs)) g.3
-      ∙ ap (λ (h : Group). old ++ texts job (with_group h gs)) g.1
-      ∙ ap (λ (hs : List Group). old ++ texts job hs) (sym (with_group-joined (group_of w) (group_of line) gs g.0 rise))
-  goes-text (Some w) (inr g) wf lf rise behind below =
-      let here : NotLess line.key.now w.key.now = below w refl in
-      let all : AllByRecursion (λ k. NotLess k w.key.now) (keys (with_group (group_of line) gs)) =
-      with_group-behind w.key.now (group_of line) gs (λ k. NotLess k w.key.now) here
-      (all_from_Has (λ k. NotLess k w.key.now) (keys gs) (λ q h. (let f : NotLess q line.key.now = Has-all (λ k. NotLess k line.key.now) (keys gs) q behind h in
-      λ less. here (less-back w.key.now q line.key.now f less)))) in
-      let wrote : texts job (with_group (group_of w) (with_group (group_of line) gs)) ≡ group_text job (group_of w) ++ texts job (with_group (group_of line) gs) =
-      elim g.2 [
+-- what a group does to what is written
+module _ (job : JobSpec) (g next : Group) (gs : List Group) (old new : List ℕ) where
+  pub goes-text : (waiting : Option Group) → Goes job waiting g next old new
+      → Rises key_order (keys gs) → AllByRecursion (λ k. NotLess k g.key) (keys gs) → ((w : Group) → waiting ≡ Some w → NotLess g.key w.key)
+      → new ++ texts job (with_group next gs) ≡ old ++ texts job (with_waiting waiting (with_group g gs))
+  goes-text None h rise behind below =
+      λ i. h.1 i ++ texts job (with_group (h.0 i) gs)
+  goes-text (Some w) (inl h) rise behind below =
+      ap (λ (o : List ℕ). o ++ texts job (with_group next gs)) h.2
+      ∙ ap (λ (q : Group). old ++ texts job (with_group q gs)) h.1
+      ∙ ap (λ (hs : List Group). old ++ texts job hs) (sym (with_group-joined w g gs h.0 rise))
+  goes-text (Some w) (inr h) rise behind below =
+      let here : NotLess g.key w.key = below w refl in
+      let all : AllByRecursion (λ k. NotLess k w.key) (keys (with_group g gs)) =
+      with_group-behind w.key g gs (λ k. NotLess k w.key) here
+      (all_from_Has (λ k. NotLess k w.key) (keys gs) (λ q a. (let f : NotLess q g.key = Has-all (λ k. NotLess k g.key) (keys gs) q behind a in
+      λ less. here (less-back w.key q g.key f less)))) in
+      let wrote : texts job (with_group w (with_group g gs)) ≡ group_text job w ++ texts job (with_group g gs) =
+      elim h.2 [
         | inl ne ↦
-            (let less : key_order w.key.now line.key.now ≡ Less = not_less-differs line.key.now w.key.now here ne in
-            ap (texts job) (in_front (group_of w) (with_group (group_of line) gs)
-            (with_group-behind w.key.now (group_of line) gs (λ k. key_order w.key.now k ≡ Less) less
-            (all_from_Has (λ k. key_order w.key.now k ≡ Less) (keys gs) (λ q h. less-not w.key.now line.key.now q less (Has-all (λ k. NotLess k line.key.now) (keys gs) q behind h))))))
-        | inr places ↦ elim places [
-          | inl p ↦ front-place job w.tally (group_of w) (with_group (group_of line) gs) wf p all
-          | inr p ↦ front-place job line.tally (group_of w) (with_group (group_of line) gs) lf p all
-        ]
+            (let less : key_order w.key g.key ≡ Less = not_less-differs g.key w.key here ne in
+            ap (texts job) (in_front w (with_group g gs)
+            (with_group-behind w.key g gs (λ k. key_order w.key k ≡ Less) less
+            (all_from_Has (λ k. key_order w.key k ≡ Less) (keys gs) (λ q a. less-not w.key g.key q less (Has-all (λ k. NotLess k g.key) (keys gs) q behind a))))))
+        | inr lines ↦ front-place job w (with_group g gs) lines all
       ] in
-      ap (λ (o : List ℕ). o ++ texts job (with_group (group_of l) gs)) g.1
-      ∙ append_assoc old (group_text job (group_of w)) (texts job (with_group (group_of l) gs))
-      ∙ ap (λ (q : Line). old ++ (group_text job (group_of w) ++ texts job (with_group (group_of q) gs))) g.0
+      ap (λ (o : List ℕ). o ++ texts job (with_group next gs)) h.1
+      ∙ append_assoc old (group_text job w) (texts job (with_group next gs))
+      ∙ ap (λ (q : Group). old ++ (group_text job w ++ texts job (with_group q gs))) h.0
       ∙ ap (λ (t : List ℕ). old ++ t) (sym wrote)
 
-  pub goes-key : (waiting : Option Line) → Goes job waiting line l old new → l.key.now ≡ line.key.now
-  goes-key None g = ap (λ (q : Line). q.key.now) g.0
-  goes-key (Some w) (inl g) = ap (λ (h : Group). h.key) g.1 ∙ g.0
-  goes-key (Some w) (inr g) = ap (λ (q : Line). q.key.now) g.0
-
-  pub goes-for : (waiting : Option Line) → Goes job waiting line l old new → IsLineFor job waiting → IsFor job line.tally → IsFor job l.tally
-  goes-for None g wf lf = subst (λ (q : Line). IsFor job q.tally) (sym g.0) lf
-  goes-for (Some w) (inl g) wf lf = kind-same job w.tally l.tally g.2 wf
-  goes-for (Some w) (inr g) wf lf = subst (λ (q : Line). IsFor job q.tally) (sym g.0) lf
+  pub goes-key : (waiting : Option Group) → Goes job waiting g next old new → next.key ≡ g.key
+  goes-key None h = ap (λ (q : Group). q.key) h.0
+  goes-key (Some w) (inl h) = ap (λ (q : Group). q.key) h.1 ∙ h.0
+  goes-key (Some w) (inr h) = ap (λ (q : Group). q.key) h.0
 
 -- ---- what the loop keeps
 
-pub record Told (job : JobSpec) (outputs : List ShardText) (cursors : List Cursor) (waiting : Option Line) (out : List ℕ) : Type 0 where
+pub record Told (job : JobSpec) (outputs : List ShardText) (cursors : List Cursor) (waiting : Option Group) (out : List ℕ) : Type 0 where
   pub stands : AllByRecursion (IsShardText job) outputs
   pub text : out ++ texts job (with_waiting waiting (merged_groups (map (left job) cursors))) ≡ texts job (merged_portions (parts_in job outputs))
   pub below : IsBelow job waiting cursors
 
-pub record Kept (job : JobSpec) (outputs : List ShardText) (cursors : List Cursor) (waiting : Option Line) (out : List ℕ) : Type 0 where
+pub record Kept (job : JobSpec) (outputs : List ShardText) (cursors : List Cursor) (waiting : Option Group) (out : List ℕ) : Type 0 where
   pub kinds : AllByRecursion (IsHeadFor job) cursors
-  pub waits : IsLineFor job waiting
   pub read : AreRead job cursors outputs
   pub few : IsWithin job outputs cursors waiting
   pub told : AllByRecursion (Stands job) cursors → Told job outputs cursors waiting out
 
-below-some : (job : JobSpec) (waiting : Option Line) (cs : List Cursor) (w : Line) → waiting ≡ Some w → IsBelow job waiting cs → AllByRecursion (NoneBefore w.key.now) (map (left job) cs)
-below-some job waiting cs w e b = subst (λ (o : Option Line). IsBelow job o cs) e b
+below-some : (job : JobSpec) (waiting : Option Group) (cs : List Cursor) (w : Group) → waiting ≡ Some w → IsBelow job waiting cs → AllByRecursion (NoneBefore w.key) (map (left job) cs)
+below-some job waiting cs w e b = subst (λ (o : Option Group). IsBelow job o cs) e b
 
-pub kept-step : (job : JobSpec) (outputs : List ShardText) (old new : List Cursor) (waiting : Option Line) (line l : Line) (out out' : List ℕ)
-    → Step job old new line → AreRead job new outputs → Goes job waiting line l out out' → Kept job outputs old waiting out → Kept job outputs new (Some l) out'
-kept-step job outputs old new waiting line l out out' s read g k =
-    let lf = step-for job old new line s k.kinds in
+pub kept-step : (job : JobSpec) (outputs : List ShardText) (old new : List Cursor) (waiting : Option Group) (line : Line) (next : Group) (out out' : List ℕ)
+    → Step job old new line → AreRead job new outputs → Goes job waiting (group_of line) next out out' → Kept job outputs old waiting out → Kept job outputs new (Some next) out'
+kept-step job outputs old new waiting line next out out' s read g k =
     let M : List (List Group) = map (left job) new in
+    let one : Group = group_of line in
     record {
       kinds = step-kinds job old new line s k.kinds;
       read = read;
-      few = within-step job outputs old new waiting line l out out' s g k.few;
-      waits = goes-for job line l (merged_groups M) out out' waiting g k.waits lf;
+      few = within-step job outputs old new waiting line next out out' s g k.few;
       told = λ st.
           (let t = k.told (step-stands job old new line s st) in
           let behind = step-behind job old new line s st in record {
             stands = t.stands;
-            text = goes-text job line l (merged_groups M) out out' waiting g k.waits lf (merged_groups-rise M) (merged-none_before line.key.now M behind)
-                (λ w e. step-at job old new line s w.key.now (below-some job waiting old w e t.below))
+            text = goes-text job one next (merged_groups M) out out' waiting g (merged_groups-rise M) (merged-none_before line.key.now M behind)
+                (λ w e. step-at job old new line s w.key (below-some job waiting old w e t.below))
                 ∙ ap (λ (gs : List Group). out ++ texts job (with_waiting waiting gs)) (sym (step-pull job old new line s st)) ∙ t.text;
-            below = subst (λ (q : List ℕ). AllByRecursion (NoneBefore q) M) (sym (goes-key job line l (merged_groups M) out out' waiting g)) behind;
+            below = subst (λ (q : List ℕ). AllByRecursion (NoneBefore q) M) (sym (goes-key job one next (merged_groups M) out out' waiting g)) behind;
           });
     }
 
@@ -190,7 +165,6 @@ pub kept-first : (job : JobSpec) (outputs : List ShardText) (cs : List Cursor) (
     → map (left job) cs ≡ shifted_parts no_shift (parts_in job outputs) → out ≡ [] → Kept job outputs cs None out
 kept-first job outputs cs out kinds read opened lefts none = record {
   kinds = kinds;
-  waits = tt;
   read = read;
   few = within-first job outputs cs lefts;
   told = λ st. record {
@@ -227,11 +201,11 @@ none-left job [] ends = refl
 none-left job (c ∷ cs) ends =
     ap (λ (o : Option Line). merged (headed o (map (shifted_group c.before) (groups_in job c.rest.now))) (merged_groups (map (left job) cs))) ends.0 ∙ none-left job cs ends.1
 
-pub record Ends (job : JobSpec) (outputs : List ShardText) (waiting : Option Line) (out : List ℕ) : Type 0 where
+pub record Ends (job : JobSpec) (outputs : List ShardText) (waiting : Option Group) (out : List ℕ) : Type 0 where
   pub stands : AllByRecursion (IsShardText job) outputs
   pub text : out ++ texts job (with_waiting waiting []) ≡ texts job (merged_portions (parts_in job outputs))
 
-pub kept-end : (job : JobSpec) (outputs : List ShardText) (cs : List Cursor) (waiting : Option Line) (out : List ℕ) → IsBest cs None → Kept job outputs cs waiting out → Ends job outputs waiting out
+pub kept-end : (job : JobSpec) (outputs : List ShardText) (cs : List Cursor) (waiting : Option Group) (out : List ℕ) → IsBest cs None → Kept job outputs cs waiting out → Ends job outputs waiting out
 kept-end job outputs cs waiting out ends k =
     let t = k.told (all-stand job cs ends k.kinds) in
     record { stands = t.stands; text = ap (λ (gs : List Group). out ++ texts job (with_waiting waiting gs)) (sym (none-left job cs ends)) ∙ t.text }

@@ -6,8 +6,9 @@ use Rattle.std.specs.Ordering.{is_lt, match_ordering}
 use Rattle.std.specs.declared.cmp.Ordering.{Ordering}
 use Rattle.std.specs.declared.cmp.Ordering.TheVariants.{Less, Equal, Greater}
 use Rattle.mr_bytes.specs.Order.{key_order}
-use Rattle.mr_jobs.specs.JobSpec.{JobSpec, counts}
+use Rattle.mr_jobs.specs.JobSpec.{JobSpec}
 use Rattle.mr_sequential.proofs.KeyLaws.{key_tie}
+use Rattle.mr_shards.specs.Lines.{joins}
 use Rattle.mr_shards.specs.Refused.{MayFollow}
 use Rattle.mr_shards.specs.Pieces.{Bound, IsBefore, PartsNoKey, before_at, is_past, next_bound, next_place}
 use Rattle.mr_shards.proofs.StepLemmas.{NotLess, is_lt-less, less-not, not_less-itself}
@@ -95,7 +96,7 @@ apart b x y low high = by (key_order x y) refl
     by Greater e = absurd (high (down b y x low (λ less. cc (sym e ∙ less))))
 
 -- a key that is not before the key of the bound may follow one that is before the bound
-pub follows : (job : JobSpec) (b : Option Bound) (last k : List ℕ) → (counts job ≡ true → PartsNoKey b) → IsBefore b last → (IsBefore (strict b) k → ⊥)
+pub follows : (job : JobSpec) (b : Option Bound) (last k : List ℕ) → (joins job ≡ true → PartsNoKey b) → IsBefore b last → (IsBefore (strict b) k → ⊥)
     → MayFollow job (Some last) k
 follows job None last k together low high = absurd low
 follows job (Some b) last k together low high = (

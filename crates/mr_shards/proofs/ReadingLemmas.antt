@@ -12,9 +12,17 @@ use Rattle.mr_bytes.specs.declared.Value.TheVariants.{One, At}
 use Rattle.mr_jobs.specs.JobSpec.{JobSpec, WordCount, LinesWith, Resources, InvertedIndex}
 use Rattle.mr_bytes.specs.Cut.{Lacks}
 use Rattle.mr_jobs.specs.Url.{before_byte}
-use Rattle.mr_reduce.specs.Text.{total_line, place_line}
+use Rattle.mr_reduce.specs.Text.{comma_separated, file_in, files_line, files_of, total_line, place_line}
+use Rattle.mr_reduce.proofs.FileLemmas.{comma, files_rise}
+use Rattle.std.proofs.lemmas.Cmp.{nat_cmp_total, ranked}
+use Rattle.std.specs.Ordering.{nat_cmp}
+use Rattle.std.specs.declared.cmp.Ordering.TheVariants.{Equal}
+use Rattle.mr_bytes.specs.Lists.{Has, Rises}
+use Rattle.mr_bytes.proofs.SortLaws.{rising_is_one, sorted-Has, sorted-Has_from}
+use Rattle.std.specs.List.{AllByRecursion}
+use Rattle.mr_shards.specs.Index.{NumbersRead}
 use Rattle.mr_shards.specs.Merged.{Group, group_text, texts}
-use Rattle.mr_shards.specs.Lines.{longer, lines, has_byte, before_last, after_last, after_first, values_in, group_in, groups_in, HasLine, OneReading}
+use Rattle.mr_shards.specs.Lines.{fields, longer, lines, has_byte, before_last, after_last, after_first, numbers_in, places_in, values_in, group_in, groups_in, HasLine, OneReading}
 
 pub lines-next : (l rest : List ℕ) → Lacks 10 l → lines (l ++ 10 ∷ rest) ≡ l ∷ lines rest
 unfolding lines longer
@@ -126,6 +134,76 @@ place-read literal fold key file offset rest clear small small' =
     (Lacks-append 9 (decimal file) (58 ∷ decimal offset) (decimal-lacks 9 file tab_other small) (λ e. omega (arith, e), decimal-lacks 9 offset tab_other small'))
     ∙ (λ i. record { key = key; values = At (first i) (second i) ∷ [] } ∷ groups_in (LinesWith literal fold) rest)
 
+-- ---- numbers between commas
+
+pub fields-next : (l rest : List ℕ) → Lacks 44 l → fields (l ++ 44 ∷ rest) ≡ l ∷ fields rest
+unfolding fields longer
+fields-next [] rest clear = refl
+fields-next (b ∷ l) rest clear =
+    ap (λ t. cond t ([] ∷ fields (l ++ 44 ∷ rest)) (longer b (fields (l ++ 44 ∷ rest)))) (ne_eqb b 44 clear.0) ∙ ap (longer b) (fields-next l rest clear.1)
+
+pub fields-last : (l : List ℕ) → Lacks 44 l → fields l ≡ l ∷ []
+unfolding fields longer
+fields-last [] clear = refl
+fields-last (b ∷ l) clear = ap (λ t. cond t ([] ∷ fields l) (longer b (fields l))) (ne_eqb b 44 clear.0) ∙ ap (longer b) (fields-last l clear.1)
+
+comma_other : IsInRange 48 57 44 → ⊥
+comma_other h = omega (arith, h.0)
+
+pub fields-commas : (n : ℕ) (ns : List ℕ) → AllByRecursion (λ m. m < 2 ^ 64) (n ∷ ns) → fields (decimal n ++ flat_map comma ns) ≡ decimal n ∷ map decimal ns
+fields-commas n [] small = ap fields (append-nil (decimal n)) ∙ fields-last (decimal n) (decimal-lacks 44 n comma_other small.0)
+fields-commas n (m ∷ ms) small =
+    fields-next (decimal n) (decimal m ++ flat_map comma ms) (decimal-lacks 44 n comma_other small.0) ∙ ap (λ l. decimal n ∷ l) (fields-commas m ms small.1)
+
+pub values-read : (ns : List ℕ) → AllByRecursion (λ m. m < 2 ^ 64) ns → map (digits_value 10) (map decimal ns) ≡ ns
+values-read [] small = refl
+values-read (n ∷ ns) small = let here = value-of n small.0 in let rest = values-read ns small.1 in λ i. here i ∷ rest i
+
+pub numbers_read : NumbersRead
+numbers_read n ns small = ap (map (digits_value 10)) (fields-commas n ns small) ∙ values-read (n ∷ ns) small
+
+-- ---- lines of an index
+
+commas-lack : (b : ℕ) (ns : List ℕ) → (IsInRange 48 57 b → ⊥) → (44 ≡ b → ⊥) → AllByRecursion (λ n. n < 2 ^ 64) ns → Lacks b (flat_map comma ns)
+commas-lack b [] other ne small = tt
+commas-lack b (n ∷ ns) other ne small =
+    (ne, Lacks-append b (decimal n) (flat_map comma ns) (decimal-lacks b n other small.0) (commas-lack b ns other ne small.1))
+
+pub separated-lack : (b n : ℕ) (ns : List ℕ) → (IsInRange 48 57 b → ⊥) → (44 ≡ b → ⊥) → AllByRecursion (λ m. m < 2 ^ 64) (n ∷ ns) → Lacks b (comma_separated (n ∷ ns))
+separated-lack b n ns other ne small = Lacks-append b (decimal n) (flat_map comma ns) (decimal-lacks b n other small.0) (commas-lack b ns other ne small.1)
+
+pub line-text : (key told rest : List ℕ) → (key ++ 9 ∷ (told ++ 10 ∷ [])) ++ rest ≡ (key ++ 9 ∷ told) ++ 10 ∷ rest
+line-text key told rest =
+    append_assoc key (9 ∷ (told ++ 10 ∷ [])) rest ∙ ap (λ l. key ++ 9 ∷ l) (append_assoc told (10 ∷ []) rest) ∙ sym (append_assoc key (9 ∷ told) (10 ∷ rest))
+
+pub index-line : (keep_case : Bool) (key : List ℕ) (n : ℕ) (ns rest : List ℕ) → Lacks 10 key → AllByRecursion (λ m. m < 2 ^ 64) (n ∷ ns)
+    → groups_in (InvertedIndex keep_case) (files_line key (n ∷ ns) ++ rest) ≡ record { key = key; values = places_in (n ∷ ns) } ∷ groups_in (InvertedIndex keep_case) rest
+index-line keep_case key n ns rest clear small =
+    let job : JobSpec = InvertedIndex keep_case in
+    let told : List ℕ = comma_separated (n ∷ ns) in
+    let no_lf : Lacks 10 told = separated-lack 10 n ns lf_other (λ e. omega (arith, e)) small in
+    let no_tab : Lacks 9 told = separated-lack 9 n ns tab_other (λ e. omega (arith, e)) small in
+    let line : List ℕ = key ++ 9 ∷ told in
+    let first : before_last 9 line ≡ key = before-last 9 key told no_tab in
+    let second : places_in (numbers_in (after_last 9 line)) ≡ places_in (n ∷ ns) =
+    ap (λ l. places_in (numbers_in l)) (after-last 9 key told no_tab) ∙ ap places_in (numbers_read n ns small) in
+    ap (groups_in job) (line-text key told rest)
+    ∙ ap (map (group_in job)) (lines-next line rest (Lacks-append 10 key (9 ∷ told) clear (λ e. omega (arith, e), no_lf)))
+    ∙ (λ i. record { key = first i; values = second i } ∷ groups_in job rest)
+
+-- a place in each of rising files tells these files
+pub files-are : (ns : List ℕ) → Rises nat_cmp ns → files_of (places_in ns) ≡ ns
+files-are ns rise =
+    rising_is_one nat_cmp (files_of (places_in ns)) ns nat_cmp_total (files_rise (places_in ns)) rise
+    (λ f. (
+      λ h. subst (λ l. Has l f) (told ns) (sorted-Has_from nat_cmp (flat_map file_in (places_in ns)) f h),
+      λ h. sorted-Has nat_cmp (flat_map file_in (places_in ns)) (λ x y a b e. sym (ranked x y Equal (sym e))) f (subst (λ l. Has l f) (sym (told ns)) h),
+    ))
+  where
+    told : (fs : List ℕ) → flat_map file_in (places_in fs) ≡ fs
+    told [] = refl
+    told (f ∷ fs) = ap (λ l. f ∷ l) (told fs)
+
 pub line-read : (job : JobSpec) (g : Group) (rest : List ℕ) → HasLine job g → groups_in job (group_text job g ++ rest) ≡ g ∷ groups_in job rest
 line-read (WordCount keep_case) g rest h =
     total-read (WordCount keep_case) g.key (length g.values) rest h.0 h.1
@@ -139,7 +217,13 @@ line-read (LinesWith literal fold) g rest h =
 line-read Resources g rest h =
     total-read Resources g.key (length g.values) rest h.0 h.1
     ∙ (let same = ap (λ n. replicate n One) (value-of (length g.values) h.1) ∙ sym h.2 in λ i. record { key = g.key; values = same i } ∷ groups_in Resources rest)
-line-read (InvertedIndex keep_case) g rest h = absurd h
+line-read (InvertedIndex keep_case) g rest h =
+    let job : JobSpec = InvertedIndex keep_case in
+    let w = h.1 in
+    ap (λ vs. groups_in job (files_line g.key (files_of vs) ++ rest)) w.4
+    ∙ ap (λ fs. groups_in job (files_line g.key fs ++ rest)) (files-are (w.0 ∷ w.1) w.2)
+    ∙ index-line keep_case g.key w.0 w.1 rest h.0 w.3
+    ∙ (λ i. record { key = g.key; values = sym w.4 i } ∷ groups_in job rest)
 
 pub one_reading : OneReading
 one_reading job [] all = ap (map (group_in job)) lines-none

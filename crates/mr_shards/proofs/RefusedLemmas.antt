@@ -16,17 +16,17 @@ use Rattle.mr_shards.specs.declared.merger.MergeFault.{MergeFault}
 use Rattle.mr_shards.specs.declared.merger.MergeFault.TheVariants.{BadLine, TotalTooLarge, TooManyFiles, NoSuchFile, PlaceTooFar, OutOfMemory}
 use Rattle.mr_shards.specs.declared.line.Line.{Line}
 use Rattle.mr_shards.specs.declared.line.Tally.{Tally}
-use Rattle.mr_shards.specs.declared.line.Tally.TheVariants.{Total, Place}
+use Rattle.mr_shards.specs.declared.line.Tally.TheVariants.{Total, Place, Files}
 use Rattle.mr_shards.specs.declared.shift.ShardFiles.{ShardFiles}
 use Rattle.mr_shards.specs.declared.merger.ShardText.{ShardText}
 use Rattle.mr_shards.specs.Merged.{Group, group_text, texts}
 use Rattle.std.proofs.Math.Nat.{mod-add-mod}
 use Rattle.mr_sequential.proofs.SourceLemmas.{flat_map-append}
 use Rattle.mr_shards.specs.Lines.{HasLine, groups_in, group_in}
-use Rattle.mr_shards.specs.Views.{BeginsWithLine, IsParsed, group_of, values_of}
+use Rattle.mr_shards.specs.Views.{BeginsWithLine, IsParsed, IsUnshifted, group_of, values_of}
 use Rattle.mr_shards.specs.Cursors.{ReadsOn}
 use Rattle.mr_shards.specs.Refused.{AreRead, Blames, BlamesOnly, InTurn, HasBadPlace, IsBadLine, IsBadPlace, IsLineOf, IsReadAt, IsReadOf, IsReadTo, IsRest, IsUnmoved, MayFollow, NoLineFollows, Overflows, TakesNot, TellsPlace, count_at, files_in, last_key, last_of, shift_before, shift_from, text_at, total_of}
-use Rattle.mr_shards.proofs.LineLemmas.{IsCut, begun, cut-read, cut-text}
+use Rattle.mr_shards.proofs.LineLemmas.{IsCut, begun, cut-read, cut-text, list-has, list-told}
 use Rattle.mr_shards.proofs.ReadingLemmas.{lines-none}
 
 has-line : (job : JobSpec) (g : Group) (t : Tally) (told : List ℕ) → Lacks 10 g.key → IsParsed job t told → g.values ≡ values_of t → HasLine job g
@@ -34,13 +34,20 @@ has-line (WordCount keep_case) g (Total n) told clear is e =
     let l : length g.values ≡ n = ap length e ∙ length-replicate n One in
     (clear, omega (arith, l, is.1), e ∙ ap (λ k. replicate k One) (sym l))
 has-line (WordCount keep_case) g (Place file offset) told clear is e = absurd is
+has-line (WordCount keep_case) g (Files list last moved) told clear is e = absurd is
 has-line (LinesWith literal fold) g (Total n) told clear is e = absurd is
 has-line (LinesWith literal fold) g (Place file offset) told clear is e = (clear, (file, offset, omega (arith, is.1), is.2, e))
+has-line (LinesWith literal fold) g (Files list last moved) told clear is e = absurd is
 has-line Resources g (Total n) told clear is e =
     let l : length g.values ≡ n = ap length e ∙ length-replicate n One in
     (clear, omega (arith, l, is.1), e ∙ ap (λ k. replicate k One) (sym l))
 has-line Resources g (Place file offset) told clear is e = absurd is
-has-line (InvertedIndex keep_case) g t told clear is e = absurd is
+has-line Resources g (Files list last moved) told clear is e = absurd is
+has-line (InvertedIndex keep_case) g (Total n) told clear is e = absurd is
+has-line (InvertedIndex keep_case) g (Place file offset) told clear is e = absurd is
+has-line (InvertedIndex keep_case) g (Files list last moved) told clear is e =
+    let w = list-told list last moved told is in
+    (clear, (w.0, w.1, w.2, w.3, e ∙ w.5))
 
 pub have-lines : (job : JobSpec) (gs : List Group) → AllByRecursion (IsLineOf job) gs → AllByRecursion (HasLine job) gs
 have-lines job [] all = tt
@@ -203,33 +210,38 @@ read-step job os at old new h r read = subst (λ (cs : List Cursor). AreRead job
 -- ---- places that are not moved
 
 -- a line that tells one, in front of the text
-pub place-line : (job : JobSpec) (text : List ℕ) (line : Line) (rest : List ℕ) (is_so : ℕ → ℕ → Type 0) (file offset : ℕ) → IsLineOf job (group_of line)
-    → text ≡ group_text job (group_of line) ++ rest → line.tally ≡ Place file offset → is_so file offset → TellsPlace job text is_so
-place-line job text line rest is_so file offset l e is so = record {
-  before = [];
-  line = group_of line;
-  rest = rest;
-  file = file;
-  offset = offset;
-  text_is = e;
-  lines = tt;
-  is_line = l;
-  place = subst (λ (t : Tally). Has (values_of t) (At file offset)) (sym is) (inl refl);
-  so = so;
-}
+module _ (job : JobSpec) (at count : ℕ) (before : Shift) (last : Option (List ℕ)) (text : List ℕ) (number : ℕ) (line : Line) (rest : List ℕ)
+    (l : IsLineOf job (group_of line)) (first : text ≡ group_text job (group_of line) ++ rest) where
+  place-line : (is_so : ℕ → ℕ → Type 0) (file offset : ℕ) → Has (values_of line.tally) (At file offset) → is_so file offset → TellsPlace job text is_so
+  place-line is_so file offset there so = record {
+    before = [];
+    line = group_of line;
+    rest = rest;
+    file = file;
+    offset = offset;
+    text_is = first;
+    lines = tt;
+    is_line = l;
+    place = there;
+    so = so;
+  }
 
-pub unmoved-line : (job : JobSpec) (at count : ℕ) (before : Shift) (last : Option (List ℕ)) (text : List ℕ) (number : ℕ) (line : Line) (rest : List ℕ) (e : MergeFault)
-    → IsLineOf job (group_of line) → text ≡ group_text job (group_of line) ++ rest → IsUnmoved at count before line.tally e → BlamesOnly job at count before last text number e
-unmoved-line job at count before last text number line rest e l first unmoved = by line.tally refl e unmoved
-  where
-    by : (t : Tally) → line.tally ≡ t → (f : MergeFault) → IsUnmoved at count before t f → BlamesOnly job at count before last text number f
-    by (Total n) is f u = absurd u
-    by (Place file offset) is (BadLine shard at_line) u = absurd u
-    by (Place file offset) is TotalTooLarge u = absurd u
-    by (Place file offset) is TooManyFiles u = place-line job text line rest (IsBadPlace at count before TooManyFiles) file offset l first is u
-    by (Place file offset) is (NoSuchFile shard) u = place-line job text line rest (IsBadPlace at count before (NoSuchFile shard)) file offset l first is u
-    by (Place file offset) is PlaceTooFar u = place-line job text line rest (IsBadPlace at count before PlaceTooFar) file offset l first is u
-    by (Place file offset) is OutOfMemory u = absurd u
+  unmoved-place : (e : MergeFault) (file offset : ℕ) → Has (values_of line.tally) (At file offset) → IsBadPlace at count before e file offset
+      → BlamesOnly job at count before last text number e
+  unmoved-place (BadLine shard at_line) file offset there u = absurd u
+  unmoved-place TotalTooLarge file offset there u = absurd u
+  unmoved-place TooManyFiles file offset there u = place-line (IsBadPlace at count before TooManyFiles) file offset there u
+  unmoved-place (NoSuchFile shard) file offset there u = place-line (IsBadPlace at count before (NoSuchFile shard)) file offset there u
+  unmoved-place PlaceTooFar file offset there u = place-line (IsBadPlace at count before PlaceTooFar) file offset there u
+  unmoved-place OutOfMemory file offset there u = absurd u
+
+  pub unmoved-line : (e : MergeFault) → IsUnshifted line.tally → IsUnmoved at count before line.tally e → BlamesOnly job at count before last text number e
+  unmoved-line e still unmoved = by line.tally refl still unmoved
+    where
+      by : (t : Tally) → line.tally ≡ t → IsUnshifted t → IsUnmoved at count before t e → BlamesOnly job at count before last text number e
+      by (Total n) is s u = absurd u
+      by (Place file offset) is s u = unmoved-place e file offset (subst (λ (t : Tally). Has (values_of t) (At file offset)) (sym is) (inl refl)) u
+      by (Files list latest moved) is s u = unmoved-place e latest 0 (subst (λ (t : Tally). Has (values_of t) (At latest 0)) (sym is) (list-has list latest moved s)) u
 
 pub lines-join : (job : JobSpec) (gs hs : List Group) → AllByRecursion (IsLineOf job) gs → AllByRecursion (IsLineOf job) hs → AllByRecursion (IsLineOf job) (gs ++ hs)
 lines-join job [] hs all more = more
@@ -349,14 +361,14 @@ handed {T} P r e w b = subst (λ (q : Result T MergeFault). IfErr q P) (sym w.1)
 pub blamed : {T : Type 0} (job : JobSpec) (os : List ShardText) (r : Result T MergeFault) (e : MergeFault) → (y : MergeFault) × (r ≡ Err y) × (y ≡ e) → Blames job os e → IfErr r (Blames job os)
 blamed {T} job os r e w b = subst (λ (q : Result T MergeFault). IfErr q (Blames job os)) (sym w.1) (subst (Blames job os) (sym w.2) b)
 
-pub blames-taken : (job : JobSpec) (os : List ShardText) (waiting : Option Line) (line : Line) (e : MergeFault) → TakesNot waiting line e
-    → (Overflows waiting line → (key : List ℕ) × (2 ^ 64 ≤ total_of job os key)) → Blames job os e
-blames-taken job os waiting line (BadLine shard at) b f = absurd b
-blames-taken job os waiting line TotalTooLarge b f = f b
-blames-taken job os waiting line TooManyFiles b f = absurd b
-blames-taken job os waiting line (NoSuchFile shard) b f = absurd b
-blames-taken job os waiting line PlaceTooFar b f = absurd b
-blames-taken job os waiting line OutOfMemory b f = tt
+pub blames-taken : (job : JobSpec) (os : List ShardText) (waiting : Option Group) (g : Group) (e : MergeFault) → TakesNot waiting g e
+    → (Overflows waiting g → (key : List ℕ) × (2 ^ 64 ≤ total_of job os key)) → Blames job os e
+blames-taken job os waiting g (BadLine shard at) b f = absurd b
+blames-taken job os waiting g TotalTooLarge b f = f b
+blames-taken job os waiting g TooManyFiles b f = absurd b
+blames-taken job os waiting g (NoSuchFile shard) b f = absurd b
+blames-taken job os waiting g PlaceTooFar b f = absurd b
+blames-taken job os waiting g OutOfMemory b f = tt
 
 -- the same from behind: a line of the job in front of such a text
 pub rest-before : (job : JobSpec) (last : Option (List ℕ)) (text : List ℕ) (line : Line) (rest : List ℕ) → IsLineOf job (group_of line) → text ≡ group_text job (group_of line) ++ rest

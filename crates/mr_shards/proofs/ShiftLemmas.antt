@@ -82,7 +82,7 @@ value-still (At file start) =
     by true = omega arith
     by false = refl
 
-values-still : (vs : List Value) → map (shifted_value no_shift) vs ≡ vs
+pub values-still : (vs : List Value) → map (shifted_value no_shift) vs ≡ vs
 values-still [] = refl
 values-still (v ∷ vs) = let here = value-still v in let rest = values-still vs in λ i. here i ∷ rest i
 

@@ -20,11 +20,11 @@ use Rattle.mr_shards.proofs.StepLemmas.{Step}
 abbrev pub one_of : List ℕ → Group → ℕ
 one_of key g = cond (bytes_eq g.key key) (length g.values) 0
 
-abbrev pub waits_with : List ℕ → Option Line → ℕ
+abbrev pub waits_with : List ℕ → Option Group → ℕ
 waits_with key None = 0
-waits_with key (Some w) = one_of key (group_of w)
+waits_with key (Some w) = one_of key w
 
-abbrev pub IsWithin : JobSpec → List ShardText → List Cursor → Option Line → Type 0
+abbrev pub IsWithin : JobSpec → List ShardText → List Cursor → Option Group → Type 0
 IsWithin job outputs cursors waiting = (key : List ℕ) → waits_with key waiting + values_among key (map (left job) cursors) ≤ total_of job outputs key
 
 -- ---- sums
@@ -87,26 +87,26 @@ joined-one key g h same =
     by true = length-append g.values h.values
     by false = refl
 
-goes-within : (job : JobSpec) (waiting : Option Line) (line l : Line) (old new key : List ℕ) → Goes job waiting line l old new
-    → one_of key (group_of l) ≤ waits_with key waiting + one_of key (group_of line)
-goes-within job None line l old new key g = omega (arith, ap (λ (q : Line). one_of key (group_of q)) g.0)
-goes-within job (Some w) line l old new key (inl g) =
-    omega (arith, ap (one_of key) g.1, joined-one key (group_of w) (group_of line) g.0)
-goes-within job (Some w) line l old new key (inr g) = omega (arith, ap (λ (q : Line). one_of key (group_of q)) g.0)
+goes-within : (job : JobSpec) (waiting : Option Group) (g next : Group) (old new key : List ℕ) → Goes job waiting g next old new
+    → one_of key next ≤ waits_with key waiting + one_of key g
+goes-within job None g next old new key h = omega (arith, ap (one_of key) h.0)
+goes-within job (Some w) g next old new key (inl h) =
+    omega (arith, ap (one_of key) h.1, joined-one key w g h.0)
+goes-within job (Some w) g next old new key (inr h) = omega (arith, ap (one_of key) h.0)
 
-pub within-step : (job : JobSpec) (outputs : List ShardText) (old new : List Cursor) (waiting : Option Line) (line l : Line) (out out' : List ℕ)
-    → Step job old new line → Goes job waiting line l out out' → IsWithin job outputs old waiting → IsWithin job outputs new (Some l)
-within-step job outputs old new waiting line l out out' s g few key =
-    omega (arith, few key, among-step job old new line key s, goes-within job waiting line l out out' key g)
+pub within-step : (job : JobSpec) (outputs : List ShardText) (old new : List Cursor) (waiting : Option Group) (line : Line) (next : Group) (out out' : List ℕ)
+    → Step job old new line → Goes job waiting (group_of line) next out out' → IsWithin job outputs old waiting → IsWithin job outputs new (Some next)
+within-step job outputs old new waiting line next out out' s g few key =
+    omega (arith, few key, among-step job old new line key s, goes-within job waiting (group_of line) next out out' key g)
 
 -- ---- a total that doesn't fit
 
 one-own : (g : Group) (key : List ℕ) → g.key ≡ key → one_of key g ≡ length g.values
 one-own g key same = ap (λ b. cond b (length g.values) 0) (ap (λ (k : List ℕ). bytes_eq k key) same ∙ bytes_eq-same key)
 
-pub too-large : (job : JobSpec) (outputs : List ShardText) (old new : List Cursor) (waiting : Option Line) (line : Line) → Step job old new line → IsWithin job outputs old waiting
-    → Overflows waiting line → (key : List ℕ) × (2 ^ 64 ≤ total_of job outputs key)
+pub too-large : (job : JobSpec) (outputs : List ShardText) (old new : List Cursor) (waiting : Option Group) (line : Line) → Step job old new line → IsWithin job outputs old waiting
+    → Overflows waiting (group_of line) → (key : List ℕ) × (2 ^ 64 ≤ total_of job outputs key)
 too-large job outputs old new None line s few o = absurd o
 too-large job outputs old new (Some w) line s few o =
     let key : List ℕ = line.key.now in
-    (key, omega (arith, o.1, few key, among-step job old new line key s, one-own (group_of w) key o.0, one-own (group_of line) key refl))
+    (key, omega (arith, o.1, few key, among-step job old new line key s, one-own w key o.0, one-own (group_of line) key refl))

@@ -4,14 +4,14 @@ use Rattle.std.proofs.lemmas.List.{append-nil, length-append, length-drop, lengt
 use Rattle.std.proofs.Math.Nat.{mod-add-mod}
 use Rattle.std.proofs.Math.Seq.{drop-append-add, take-add}
 use Rattle.std.specs.List.{AllByRecursion}
-use Rattle.mr_jobs.specs.JobSpec.{JobSpec, counts}
+use Rattle.mr_jobs.specs.JobSpec.{JobSpec}
 use Rattle.mr_sequential.proofs.SourceLemmas.{flat_map-append}
 use Rattle.mr_shards.specs.declared.shift.ShardFiles.{ShardFiles}
 use Rattle.mr_shards.specs.declared.merger.ShardText.{ShardText}
 use Rattle.mr_shards.specs.declared.window.Held.{Held}
 use Rattle.mr_shards.specs.declared.window.Window.{Window}
 use Rattle.mr_shards.specs.Merged.{Group, group_text, texts}
-use Rattle.mr_shards.specs.Lines.{group_in, groups_in, lines}
+use Rattle.mr_shards.specs.Lines.{group_in, groups_in, lines, joins}
 use Rattle.mr_shards.specs.Outputs.{parts_in}
 use Rattle.mr_shards.specs.Refused.{AreInFiles, InTurn, IsLineOf, IsRest, IsShardText, MayFollow, TellsFiles}
 use Rattle.mr_shards.specs.Pieces.{AreTaken, AreWindows, AreWithin, BeginsBehind, Bound, IsBefore, IsTaken, IsWindow, PartsNoKey, Reading, all_read_on, are_last, behind, cut_before, cuts_before, front, is_past, next_bound, next_place, nothing, outputs_of, part_taken, pieces_of, read_on, taken_on, text_taken, told, whole_window}
@@ -61,9 +61,9 @@ abbrev IsLow : Option Bound → Option (List ℕ) → Type 0
 IsLow b None = Unit {0}
 IsLow b (Some k) = IsBefore b k
 
--- of a job that counts, the bound parts no lines of one key
+-- of a job that joins a key's lines, the bound parts none
 abbrev pub Suits : JobSpec → Option Bound → Type 0
-Suits job b = counts job ≡ true → PartsNoKey b
+Suits job b = joins job ≡ true → PartsNoKey b
 
 pub suits-next : (job : JobSpec) (b : Option Bound) → Suits job b → Suits job (next_bound b)
 suits-next job None s counted = tt
@@ -217,10 +217,10 @@ abbrev pub AllStand : JobSpec → List ShardText → Type 0
 AllStand job os = AllByRecursion (IsShardText job) os
 
 abbrev pub woven_taken : JobSpec → List Reading → List Group
-woven_taken job rs = woven_parts (counts job) (map (part_taken job) rs)
+woven_taken job rs = woven_parts (joins job) (map (part_taken job) rs)
 
 abbrev pub woven_in : JobSpec → List ShardText → List Group
-woven_in job os = woven_parts (counts job) (parts_in job os)
+woven_in job os = woven_parts (joins job) (parts_in job os)
 
 pub record Sums (job : JobSpec) (b : Option Bound) (rs : List Reading) (cs : List ℕ) (os : List ShardText) : Type 0 where
   pub woven_is : woven_taken job (taken_on cs rs) ≡ woven_taken job rs ++ woven_in job os
@@ -231,14 +231,14 @@ pub record Sums (job : JobSpec) (b : Option Bound) (rs : List Reading) (cs : Lis
 sum-more : (job : JobSpec) (b : Option Bound) (gs hs new : List Group) (xs ys all : List Group) (files files' : ShardFiles) → Suits job b → new ≡ gs ++ hs
     → all ≡ xs ++ ys → files' ≡ files
     → Low b gs → High (next_bound b) hs → Low (next_bound b) xs → High (strict b) ys
-    → woven (counts job) new (map (shifted_group (past_shard files)) all)
-    ≡ woven (counts job) gs (map (shifted_group (past_shard files)) xs) ++ woven (counts job) hs (map (shifted_group (past_shard files')) ys)
+    → woven (joins job) new (map (shifted_group (past_shard files)) all)
+    ≡ woven (joins job) gs (map (shifted_group (past_shard files)) xs) ++ woven (joins job) hs (map (shifted_group (past_shard files')) ys)
 sum-more job b gs hs new xs ys all files files' suits e s same lg hh lx hy =
-    (λ i. woven (counts job) (e i) (map (shifted_group (past_shard files)) (s i)))
-    ∙ ap (woven (counts job) (gs ++ hs)) (map-append (shifted_group (past_shard files)) xs ys)
+    (λ i. woven (joins job) (e i) (map (shifted_group (past_shard files)) (s i)))
+    ∙ ap (woven (joins job) (gs ++ hs)) (map-append (shifted_group (past_shard files)) xs ys)
     ∙ woven-apart job b suits gs hs (map (shifted_group (past_shard files)) xs) (map (shifted_group (past_shard files)) ys) lg hh
     (all-moved (IsBefore (next_bound b)) (past_shard files) xs lx) (all-moved (λ k. IsBefore (strict b) k → ⊥) (past_shard files) ys hy)
-    ∙ ap (λ (f : ShardFiles). woven (counts job) gs (map (shifted_group (past_shard files)) xs) ++ woven (counts job) hs (map (shifted_group (past_shard f)) ys)) (sym same)
+    ∙ ap (λ (f : ShardFiles). woven (joins job) gs (map (shifted_group (past_shard files)) xs) ++ woven (joins job) hs (map (shifted_group (past_shard f)) ys)) (sym same)
 
 read-taken : (job : JobSpec) (b : Option Bound) (hs : List Held) (rs : List Reading) → AreTaken job b hs rs → AllByRecursion (IsRead job) (map (part_taken job) rs)
 read-taken job b [] [] t = tt
@@ -273,9 +273,9 @@ module _ (job : JobSpec) where
         woven_is = sum-more job b (groups_in job (front r)) (groups_in job o.text.now) (groups_in job (front (on r c))) xs ys
             (woven_taken job (taken_on cs rs)) r.output.files o.files t.0.together g.groups s.woven_is g.files g.low g.high s.low high;
         parts_read = ((front (on r c), g.stands_on, refl), s.parts_read);
-        low = woven-all (counts job) (IsBefore b) (groups_in job (front r)) (map (shifted_group (past_shard r.output.files)) xs) g.low
+        low = woven-all (joins job) (IsBefore b) (groups_in job (front r)) (map (shifted_group (past_shard r.output.files)) xs) g.low
             (all-moved (IsBefore b) (past_shard r.output.files) xs (all-map (IsBefore (next_bound b)) (IsBefore b) (keys xs) (λ k low. next-before b k low) s.low));
-        high = woven-all (counts job) (λ k. IsBefore (strict b) k → ⊥) (groups_in job o.text.now) (map (shifted_group (past_shard o.files)) ys)
+        high = woven-all (joins job) (λ k. IsBefore (strict b) k → ⊥) (groups_in job o.text.now) (map (shifted_group (past_shard o.files)) ys)
             (high-strict b (groups_in job o.text.now) g.high)
             (all-moved (λ k. IsBefore (strict b) k → ⊥) (past_shard o.files) ys high);
       }

@@ -9,12 +9,11 @@ use Rattle.std.specs.declared.cmp.Ordering.TheVariants.{Less, Equal, Greater}
 use Rattle.mr_bytes.specs.declared.Value.{Value}
 use Rattle.mr_bytes.specs.Lists.{Rises}
 use Rattle.mr_bytes.specs.Order.{key_order}
-use Rattle.mr_jobs.specs.JobSpec.{JobSpec, WordCount, LinesWith, Resources, InvertedIndex, counts}
+use Rattle.mr_jobs.specs.JobSpec.{JobSpec, WordCount, LinesWith, Resources, InvertedIndex}
 use Rattle.mr_sequential.proofs.KeyLaws.{key_tie}
 use Rattle.mr_shards.specs.Merged.{Group, joined, merged, texts, with_group}
-use Rattle.mr_shards.specs.Lines.{group_in, groups_in, lines}
+use Rattle.mr_shards.specs.Lines.{group_in, groups_in, lines, joins}
 use Rattle.mr_shards.specs.Refused.{IsRest}
-use Rattle.mr_shards.proofs.IndexLemmas.{rest-no_groups}
 use Rattle.mr_shards.proofs.MergedLaws.{keys, merged-rise}
 use Rattle.mr_shards.proofs.StepLemmas.{NotLess, all-map, not_less-itself, turned}
 use Rattle.mr_shards.proofs.PlaceLemmas.{not-back}
@@ -237,28 +236,9 @@ each-read literal fold (p ∷ ps) all = (
   each-read literal fold ps all.1,
 )
 
--- of an index no groups are read, so there are none together
-none-read : (keep_case : Bool) (ps : List Part) → AllByRecursion (IsRead (InvertedIndex keep_case)) ps → AllByRecursion (λ (p : Part). p.groups ≡ []) ps
-none-read keep_case [] all = tt
-none-read keep_case (p ∷ ps) all = (all.0.2 ∙ rest-no_groups keep_case all.0.0 all.0.1, none-read keep_case ps all.1)
-
-none-merged : (ps : List Part) → AllByRecursion (λ (p : Part). p.groups ≡ []) ps → merged_portions ps ≡ []
-none-merged [] all = refl
-none-merged (p ∷ ps) all =
-    let rest = none-merged ps all.1 in
-    λ i. merged (all.0 i) (map (shifted_group p.shift) (rest i))
-
-none-woven : (joins : Bool) (ps : List Part) → AllByRecursion (λ (p : Part). p.groups ≡ []) ps → woven_parts joins ps ≡ []
-none-woven joins [] all = refl
-none-woven joins (p ∷ ps) all =
-    let rest = none-woven joins ps all.1 in
-    λ i. woven joins (all.0 i) (map (shifted_group p.shift) (rest i))
-
-pub woven-text : (job : JobSpec) (ps : List Part) → AllByRecursion (IsRead job) ps → texts job (merged_portions ps) ≡ texts job (woven_parts (counts job) ps)
+pub woven-text : (job : JobSpec) (ps : List Part) → AllByRecursion (IsRead job) ps → texts job (merged_portions ps) ≡ texts job (woven_parts (joins job) ps)
 woven-text (WordCount keep_case) ps all = ap (texts (WordCount keep_case)) (parts-joined ps)
 woven-text (LinesWith literal fold) ps all =
     sym (all-texts literal fold (merged_portions ps)) ∙ ap (texts (LinesWith literal fold)) (each-parts ps (each-read literal fold ps all))
 woven-text Resources ps all = ap (texts Resources) (parts-joined ps)
-woven-text (InvertedIndex keep_case) ps all =
-    let none = none-read keep_case ps all in
-    ap (texts (InvertedIndex keep_case)) (none-merged ps none ∙ sym (none-woven false ps none))
+woven-text (InvertedIndex keep_case) ps all = ap (texts (InvertedIndex keep_case)) (parts-joined ps)

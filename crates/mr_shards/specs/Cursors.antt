@@ -1,5 +1,5 @@
 -- Where a merge stands in the outputs of shards.
-use Rattle.std.specs.Prelude.{◌≡◌, ◌⊎◌, ℕ, ◌+◌, if◌then◌else◌, List, [], ◌∷◌, ◌++◌, Option, None, Some, IfSome, length, map, slice_index_or, slice_set}
+use Rattle.std.specs.Prelude.{◌≡◌, ◌⊎◌, ℕ, ◌+◌, false, if◌then◌else◌, List, [], ◌∷◌, ◌++◌, Option, None, Some, IfSome, length, map, slice_index_or, slice_set}
 use Rattle.std.specs.List.{AllByRecursion}
 use Rattle.std.specs.Ordering.{is_lt}
 use Rattle.std.specs.declared.cmp.Ordering.TheVariants.{Less}
@@ -9,11 +9,11 @@ use Rattle.mr_group.specs.FirstBytes.{AreBytes, first_bytes}
 use Rattle.mr_shards.specs.declared.cursor.Cursor.{Cursor}
 use Rattle.mr_shards.specs.declared.line.Line.{Line}
 use Rattle.mr_shards.specs.Merged.{Group, group_text, joined, with_group}
-use Rattle.mr_shards.specs.Lines.{groups_in}
+use Rattle.mr_shards.specs.Lines.{groups_in, joins}
 use Rattle.mr_shards.specs.declared.merger.MergeFault.{MergeFault}
 use Rattle.mr_shards.specs.Refused.{BlamesOnly, IsReadOf, IsRestOf, last_key}
 use Rattle.mr_shards.specs.Portions.{shifted_group}
-use Rattle.mr_shards.specs.Views.{group_of, IsFor, IsPlace, IsSameKind}
+use Rattle.mr_shards.specs.Views.{group_of, IsFor}
 
 -- the key of a line is not before that of the last one
 abbrev pub DoesNotFall : Option Line → Line → Type 0
@@ -93,18 +93,22 @@ IsHead job (Some l) rest = IsFor job l.tally × HasFront l
 abbrev pub IsHeadFor : JobSpec → Cursor → Type 0
 IsHeadFor job c = IsHead job c.head c.rest.now
 
--- a line is taken behind the one that waits: both are one line of one key; or the one that waited is written, and its
--- key is another, or one of the two tells a place
-abbrev pub Goes : JobSpec → Option Line → Line → Line → List ℕ → List ℕ → Type 0
-Goes job None line l old new = (l ≡ line) × (new ≡ old)
-Goes job (Some w) line l old new =
-    ((w.key.now ≡ line.key.now) × (group_of l ≡ joined (group_of w) (group_of line)) × IsSameKind w.tally l.tally × (new ≡ old))
-    ⊎ ((l ≡ line) × (new ≡ old ++ group_text job (group_of w)) × ((w.key.now ≡ line.key.now → ⊥) ⊎ (IsPlace w.tally ⊎ IsPlace line.tally)))
+-- the line is not joined to the one that waits: it has another key, or the job has a line for each value
+abbrev pub StaysApart : JobSpec → Option Line → Line → Type 0
+StaysApart job None line = Unit {0}
+StaysApart job (Some w) line = (w.key.now ≡ line.key.now → ⊥) ⊎ (joins job ≡ false)
 
--- groups with the line that waits
-abbrev pub with_waiting : Option Line → List Group → List Group
+-- a group is taken behind the one that waits: both are one, of one key; or the one that waited is written, and it stays apart
+abbrev pub Goes : JobSpec → Option Group → Group → Group → List ℕ → List ℕ → Type 0
+Goes job None g next old new = (next ≡ g) × (new ≡ old)
+Goes job (Some w) g next old new =
+    ((w.key ≡ g.key) × (next ≡ joined w g) × (new ≡ old))
+    ⊎ ((next ≡ g) × (new ≡ old ++ group_text job w) × ((w.key ≡ g.key → ⊥) ⊎ (joins job ≡ false)))
+
+-- groups with the one that waits
+abbrev pub with_waiting : Option Group → List Group → List Group
 with_waiting None gs = gs
-with_waiting (Some w) gs = with_group (group_of w) gs
+with_waiting (Some w) gs = with_group w gs
 
 -- one of the cursors is at its next line
 pub record ReadsOn (job : JobSpec) (at : ℕ) (old new : List Cursor) : Type 0 where

@@ -1,26 +1,13 @@
--- The files that a line of an index names, as numbers between commas: how lists of two portions are joined, and how a list is
--- read.
-use Rattle.std.specs.Prelude.{◌≡◌, ℕ, suc, ◌+◌, ◌<◌, ◌≤◌, ◌^◌, ◌==◌, if◌then◌else◌, Bool, false, List, [], ◌∷◌, ◌++◌, Option, None, Some, length, map}
+-- The files that a line of an index names, as numbers between commas.
+use Rattle.std.specs.Prelude.{◌≡◌, ℕ, suc, ◌+◌, ◌<◌, ◌^◌, List, [], ◌∷◌, Option, None, Some, length, map}
 use Rattle.std.specs.Borrow.{Bor}
 use Rattle.std.specs.List.{AllByRecursion}
 use Rattle.std.specs.Ordering.{nat_cmp}
 use Rattle.mr_bytes.specs.declared.Value.{Value}
-use Rattle.mr_bytes.specs.Lists.{Has, Rises}
+use Rattle.mr_bytes.specs.Lists.{Rises}
 use Rattle.mr_reduce.specs.Text.{comma_separated, files_of}
 use Rattle.mr_shards.specs.Lines.{fields, numbers_in}
 use Rattle.mr_shards.specs.Portions.{Shift, shifted_value}
-
--- two lists of rising numbers, one behind the other: where the last of the first is the first of the second, it is kept once
-abbrev pub joined_numbers : List ℕ → List ℕ → List ℕ
-joined_numbers [] ns = ns
-joined_numbers (m ∷ []) [] = m ∷ []
-joined_numbers (m ∷ []) (n ∷ ns) = if m == n then n ∷ ns else m ∷ n ∷ ns
-joined_numbers (m ∷ k ∷ ms) ns = m ∷ joined_numbers (k ∷ ms) ns
-
--- the files of values of which the first have none behind a number, and the others none before it, are those of both, joined
-abbrev pub NumbersJoin : Type 0
-NumbersJoin = (vs ws : List Value) (last : ℕ) → ((file : ℕ) → Has (files_of vs) file → file ≤ last) → ((file : ℕ) → Has (files_of ws) file → last ≤ file)
-    → files_of (vs ++ ws) ≡ joined_numbers (files_of vs) (files_of ws)
 
 -- files of values that are moved: a place within a file changes none
 abbrev pub NumbersMove : Type 0
@@ -48,8 +35,7 @@ abbrev pub size_left : Option (Bor (List ℕ)) → ℕ
 size_left None = 0
 size_left (Some rest) = suc (length rest.now)
 
--- the last of the numbers
-abbrev pub last_is : ℕ → List ℕ → Bool
-last_is n [] = false
-last_is n (m ∷ []) = m == n
-last_is n (m ∷ k ∷ ms) = last_is n (k ∷ ms)
+-- the least number behind the last one
+abbrev pub number_past : Option ℕ → ℕ
+number_past None = 0
+number_past (Some n) = n + 1

@@ -1,12 +1,14 @@
 -- Outputs as lines, and the merge of the outputs of shards.
-use Rattle.std.specs.Prelude.{◌≡◌, ◌⊎◌, ℕ, ◌<◌, ◌^◌, ◌==◌, Bool, if◌then◌else◌, List, [], ◌∷◌, ◌++◌, map, replicate, length}
+use Rattle.std.specs.Prelude.{◌≡◌, ◌⊎◌, ℕ, ◌<◌, ◌^◌, ◌==◌, Bool, not, if◌then◌else◌, List, [], ◌∷◌, ◌++◌, map, replicate, length}
 use Rattle.std.specs.List.{AllByRecursion, list_any}
 use Rattle.std.specs.Str.Parse.{digits_value}
 use Rattle.std.specs.declared.cmp.Ordering.TheVariants.{Less}
 use Rattle.mr_bytes.specs.declared.Value.{Value}
 use Rattle.mr_bytes.specs.declared.Value.TheVariants.{One, At}
 use Rattle.mr_bytes.specs.Order.{key_order}
-use Rattle.mr_jobs.specs.JobSpec.{JobSpec, WordCount, LinesWith, Resources, InvertedIndex}
+use Rattle.mr_jobs.specs.JobSpec.{JobSpec, WordCount, LinesWith, Resources, InvertedIndex, has_lines}
+use Rattle.mr_bytes.specs.Lists.{Rises}
+use Rattle.std.specs.Ordering.{nat_cmp}
 use Rattle.mr_bytes.specs.Cut.{Lacks}
 use Rattle.mr_jobs.specs.Url.{before_byte}
 use Rattle.mr_shards.specs.Merged.{Group, texts}
@@ -42,12 +44,9 @@ unfoldable pub after_first : ℕ → List ℕ → List ℕ
 after_first b [] = []
 after_first b (x ∷ xs) = if x == b then xs else after_first b xs
 
--- outputs of shards of the job are merged line by line; a line of an index tells several files at once, and is joined with no other
-abbrev pub CanMerge : JobSpec → Type 0
-CanMerge (WordCount keep_case) = Unit {0}
-CanMerge (LinesWith literal fold) = Unit {0}
-CanMerge Resources = Unit {0}
-CanMerge (InvertedIndex keep_case) = ⊥
+-- a key has one line, and those of several outputs are joined to one
+abbrev pub joins : JobSpec → Bool
+joins job = not (has_lines job)
 
 -- what stands between commas
 unfoldable pub fields : List ℕ → List (List ℕ)
@@ -76,12 +75,12 @@ group_in job line = record { key = before_last 9 line; values = values_in job (a
 abbrev pub groups_in : JobSpec → List ℕ → List Group
 groups_in job text = map (group_in job) (lines text)
 
--- no line feed in the key, and a number that fits in 64 bits, or a place; no line of an index is read back
+-- no line feed in the key, and a number that fits in 64 bits, or a place, or a place in each of some files that rise
 abbrev pub HasLine : JobSpec → Group → Type 0
 HasLine (WordCount keep_case) g = Lacks 10 g.key × (length g.values < 2 ^ 64) × (g.values ≡ replicate (length g.values) One)
 HasLine (LinesWith literal fold) g = Lacks 10 g.key × ((file : ℕ) × (offset : ℕ) × (file < 2 ^ 64) × (offset < 2 ^ 64) × (g.values ≡ At file offset ∷ []))
 HasLine Resources g = Lacks 10 g.key × (length g.values < 2 ^ 64) × (g.values ≡ replicate (length g.values) One)
-HasLine (InvertedIndex keep_case) g = ⊥
+HasLine (InvertedIndex keep_case) g = Lacks 10 g.key × ((n : ℕ) × (ns : List ℕ) × Rises nat_cmp (n ∷ ns) × AllByRecursion (λ m. m < 2 ^ 64) (n ∷ ns) × (g.values ≡ places_in (n ∷ ns)))
 
 -- no key is before an earlier one
 abbrev pub NoneFalls : List Group → Type 0

@@ -3,7 +3,7 @@ use Rattle.std.specs.Prelude.{◌≡◌, ◌⊎◌, ℕ, zero, suc, pred, ◌+�
 use Rattle.std.specs.List.{AllByRecursion}
 use Rattle.std.specs.Ordering.{is_lt, match_ordering}
 use Rattle.mr_bytes.specs.Order.{key_order}
-use Rattle.mr_jobs.specs.JobSpec.{JobSpec, counts}
+use Rattle.mr_jobs.specs.JobSpec.{JobSpec}
 use Rattle.mr_shards.specs.declared.merger.MergeFault.{MergeFault}
 use Rattle.mr_shards.specs.declared.merger.MergeFault.TheVariants.{BadLine, TotalTooLarge, TooManyFiles, NoSuchFile, PlaceTooFar, OutOfMemory}
 use Rattle.mr_shards.specs.declared.shift.ShardFiles.{ShardFiles}
@@ -11,7 +11,7 @@ use Rattle.mr_shards.specs.declared.merger.ShardText.{ShardText}
 use Rattle.mr_shards.specs.declared.window.Held.{Held}
 use Rattle.mr_shards.specs.declared.window.Window.{Window}
 use Rattle.mr_shards.specs.Merged.{Group, texts}
-use Rattle.mr_shards.specs.Lines.{EndsLine, before_last, groups_in, lines}
+use Rattle.mr_shards.specs.Lines.{EndsLine, before_last, groups_in, lines, joins}
 use Rattle.mr_shards.specs.Outputs.{IsOutputOfAll, parts_in}
 use Rattle.mr_shards.specs.Portions.{Part, merged_portions, past_shard}
 use Rattle.mr_shards.specs.Refused.{Blames, IsRest, IsShardText, TellsFiles}
@@ -97,7 +97,7 @@ PartsNoKey None = Unit {0}
 PartsNoKey (Some b) = b.shards ≡ 0
 
 -- lines of the job with keys in turn, and places in the shard's own files, were taken of the first shard, so many; each is before the bound, and the next one would
--- not be so in the next shard; of a job that counts, a key's lines are taken together
+-- not be so in the next shard; of a job that joins a key's lines, these are taken together
 pub record IsTaken (job : JobSpec) (bound : Option Bound) (h : Held) (r : Reading) : Type 0 where
   pub files : h.files ≡ r.output.files
   pub within : r.taken ≤ length r.output.text.now
@@ -106,7 +106,7 @@ pub record IsTaken (job : JobSpec) (bound : Option Bound) (h : Held) (r : Readin
   pub before : AllByRecursion (λ (g : Group). IsBefore bound g.key) (groups_in job (front r))
   pub next : BeginsBehind (next_bound bound) (groups_in job (behind r))
   pub count : h.lines ≡ length (groups_in job (front r)) % 2 ^ 64
-  pub together : counts job ≡ true → PartsNoKey bound
+  pub together : joins job ≡ true → PartsNoKey bound
 
 abbrev pub AreTaken : JobSpec → Option Bound → List Held → List Reading → Type 0
 AreTaken job bound [] [] = Unit {0}
@@ -158,9 +158,9 @@ least_last least n (w ∷ ws) =
     if w.is_last then least_last least (n + 1) ws
     else where_some (last_key_in None (lines w.bytes.now)) (λ k. least_last (Some (lesser_place least (record { key = k; shards = n + 1 }))) (n + 1) ws)
 
--- the place that a job's lines are taken to: where it counts, it is before all lines with the key
+-- the place that a job's lines are taken to: where it joins a key's lines, it is before all of them
 abbrev pub place_for : JobSpec → Bound → Bound
-place_for job b = record { key = b.key; shards = if counts job then 0 else b.shards }
+place_for job b = record { key = b.key; shards = if joins job then 0 else b.shards }
 
 -- all but the last
 abbrev pub but_last : List (List ℕ) → List (List ℕ)
@@ -304,9 +304,9 @@ OneGoes [] cs = ⊥
 OneGoes (w ∷ ws) [] = ⊥
 OneGoes (w ∷ ws) (c ∷ cs) = ((w.is_last ≡ false) × (lines (take c w.bytes.now) ≡ but_last (lines w.bytes.now))) ⊎ OneGoes ws cs
 
--- of a job that does not count, one window goes of outputs that stand, however many lines of one key there are
+-- of a job that joins no lines, one window goes of outputs that stand, however many lines of one key there are
 abbrev pub GoesOn : JobSpec → List Window → List ℕ → Standing → Type 0
-GoesOn job ws cuts old = counts job ≡ false → are_last ws ≡ false → HaveLines ws → (rs : List Reading) → IsAfter job rs old → AreWindows rs ws
+GoesOn job ws cuts old = joins job ≡ false → are_last ws ≡ false → HaveLines ws → (rs : List Reading) → IsAfter job rs old → AreWindows rs ws
     → AllByRecursion (λ (o : ShardText). IsRest job None o.text.now) (outputs_of rs) → OneGoes ws cuts
 
 -- what is added; it is that whatever the outputs are, of which these are windows

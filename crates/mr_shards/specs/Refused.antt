@@ -7,24 +7,24 @@ use Rattle.mr_bytes.specs.Order.{key_order}
 use Rattle.mr_bytes.specs.declared.Value.{Value}
 use Rattle.mr_bytes.specs.declared.Value.TheVariants.{At}
 use Rattle.mr_bytes.specs.Lists.{Has}
-use Rattle.mr_jobs.specs.JobSpec.{JobSpec, counts}
+use Rattle.mr_jobs.specs.JobSpec.{JobSpec}
 use Rattle.mr_bytes.specs.Cut.{Lacks}
 use Rattle.mr_shards.specs.declared.cursor.Cursor.{Cursor}
 use Rattle.mr_shards.specs.declared.merger.MergeFault.{MergeFault}
 use Rattle.mr_shards.specs.declared.merger.MergeFault.TheVariants.{BadLine, TotalTooLarge, TooManyFiles, NoSuchFile, PlaceTooFar, OutOfMemory}
 use Rattle.mr_shards.specs.declared.line.Line.{Line}
 use Rattle.mr_shards.specs.declared.line.Tally.{Tally}
-use Rattle.mr_shards.specs.declared.line.Tally.TheVariants.{Total, Place}
+use Rattle.mr_shards.specs.declared.line.Tally.TheVariants.{Total, Place, Files}
 use Rattle.mr_shards.specs.declared.merger.ShardText.{ShardText}
 use Rattle.mr_shards.specs.Merged.{Group, group_text, texts}
-use Rattle.mr_shards.specs.Lines.{groups_in}
+use Rattle.mr_shards.specs.Lines.{groups_in, joins}
 use Rattle.mr_shards.specs.Portions.{Shift, behind, no_shift, past_shard, shifted_start}
-use Rattle.mr_shards.specs.Views.{IsParsed, values_of}
+use Rattle.mr_shards.specs.Views.{IsParsed, values_of, values_waiting}
 
--- a key may stand behind the last one: behind that of a total it is greater, behind that of a place not less
+-- a key may stand behind the last one: where a key has one line it is greater, and else not less
 abbrev pub MayFollow : JobSpec → Option (List ℕ) → List ℕ → Type 0
 MayFollow job None key = Unit {0}
-MayFollow job (Some last) key = (key_order key last ≡ Less → ⊥) × (counts job ≡ true → key_order key last ≡ Equal → ⊥)
+MayFollow job (Some last) key = (key_order key last ≡ Less → ⊥) × (joins job ≡ true → key_order key last ≡ Equal → ⊥)
 
 -- a line of the job stands for the group
 pub record IsLineOf (job : JobSpec) (g : Group) : Type 0 where
@@ -133,6 +133,7 @@ IsBadPlace at count before OutOfMemory file offset = ⊥
 abbrev pub IsUnmoved : ℕ → ℕ → Shift → Tally → MergeFault → Type 0
 IsUnmoved at count before (Total n) e = ⊥
 IsUnmoved at count before (Place file offset) e = IsBadPlace at count before e file offset
+IsUnmoved at count before (Files list last moved) e = IsBadPlace at count before e last 0
 
 -- behind lines of the job stands one that tells such a place
 pub record TellsPlace (job : JobSpec) (text : List ℕ) (is_so : ℕ → ℕ → Type 0) : Type 0 where
@@ -157,18 +158,27 @@ PassesNot s PlaceTooFar = 2 ^ 64 ≤ s.bytes
 PassesNot s OutOfMemory = ⊥
 
 -- two totals of one key, which together don't fit
-abbrev pub Overflows : Option Line → Line → Type 0
-Overflows None line = ⊥
-Overflows (Some w) line = (w.key.now ≡ line.key.now) × (2 ^ 64 ≤ length (values_of w.tally) + length (values_of line.tally))
+abbrev pub Overflows : Option Group → Group → Type 0
+Overflows None g = ⊥
+Overflows (Some w) g = (w.key ≡ g.key) × (2 ^ 64 ≤ length w.values + length g.values)
+
+-- a line is not joined to those of its key: only where a total doesn't fit
+abbrev pub IsUnjoined : Tally → List Value → Tally → MergeFault → Type 0
+IsUnjoined first places more (BadLine shard line) = ⊥
+IsUnjoined first places more TotalTooLarge = 2 ^ 64 ≤ length (values_waiting first places) + length (values_of more)
+IsUnjoined first places more TooManyFiles = ⊥
+IsUnjoined first places more (NoSuchFile shard) = ⊥
+IsUnjoined first places more PlaceTooFar = ⊥
+IsUnjoined first places more OutOfMemory = Unit {0}
 
 -- no line is blamed, and a total only where it doesn't fit
-abbrev pub TakesNot : Option Line → Line → MergeFault → Type 0
-TakesNot waiting line (BadLine shard at) = ⊥
-TakesNot waiting line TotalTooLarge = Overflows waiting line
-TakesNot waiting line TooManyFiles = ⊥
-TakesNot waiting line (NoSuchFile shard) = ⊥
-TakesNot waiting line PlaceTooFar = ⊥
-TakesNot waiting line OutOfMemory = Unit {0}
+abbrev pub TakesNot : Option Group → Group → MergeFault → Type 0
+TakesNot waiting g (BadLine shard at) = ⊥
+TakesNot waiting g TotalTooLarge = Overflows waiting g
+TakesNot waiting g TooManyFiles = ⊥
+TakesNot waiting g (NoSuchFile shard) = ⊥
+TakesNot waiting g PlaceTooFar = ⊥
+TakesNot waiting g OutOfMemory = Unit {0}
 
 -- a line is blamed only in that shard, by its number there, and only where what is left begins with no line that may follow;
 -- and a place only where a line that is left tells it

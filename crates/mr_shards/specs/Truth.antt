@@ -4,7 +4,6 @@ use Rattle.sha2.specs.Sha256.{sha256}
 use Rattle.mr_bytes.specs.declared.By.{By}
 use Rattle.mr_bytes.specs.declared.By.TheVariants.{Host, Key}
 use Rattle.mr_jobs.specs.JobSpec.{ByFits, JobFits, PartsFit, RequestSpec, SplitFits, flags_of, job_literal, job_number}
-use Rattle.mr_shards.specs.Lines.{CanMerge}
 use Rattle.mr_shards.specs.RangeNotes.{RangeNote}
 use Rattle.mr_shards.specs.RangeVerdicts.{IsTrueOfRanges, RangeVerdict}
 use Rattle.mr_shards.specs.Spots.{Spot}
@@ -98,6 +97,6 @@ by_told flags = if flags == 4 then Host else Key
 abbrev pub CanBeMade : RequestSpec → Type 0
 CanBeMade request = JobFits request.job × ByFits request.job request.by × PartsFit request.parts × SplitFits request.split
 
--- there is no request that it is about, of a job whose outputs can be merged
+-- there is no request that it is about
 abbrev pub AsksNone : Told → Type 0
-AsksNone v = (request : RequestSpec) → CanBeMade request → CanMerge request.job → Asks v request → ⊥
+AsksNone v = (request : RequestSpec) → CanBeMade request → Asks v request → ⊥

@@ -1,36 +1,45 @@
 -- How clauses see lines and cursors.
-use Rattle.std.specs.Prelude.{◌≡◌, ◌⊎◌, ℕ, ◌<◌, ◌^◌, List, [], ◌∷◌, ◌++◌, Option, None, Some, replicate, decimal}
+use Rattle.std.specs.Prelude.{◌≡◌, ℕ, ◌+◌, ◌<◌, ◌^◌, List, [], ◌∷◌, ◌++◌, Option, None, Some, map, replicate, decimal}
 use Rattle.mr_bytes.specs.declared.Value.{Value}
 use Rattle.mr_bytes.specs.declared.Value.TheVariants.{One, At}
 use Rattle.mr_jobs.specs.JobSpec.{JobSpec, WordCount, LinesWith, Resources, InvertedIndex}
 use Rattle.mr_bytes.specs.Cut.{Lacks}
 use Rattle.mr_shards.specs.declared.line.Line.{Line}
 use Rattle.mr_shards.specs.declared.line.Tally.{Tally}
-use Rattle.mr_shards.specs.declared.line.Tally.TheVariants.{Total, Place}
-use Rattle.mr_shards.specs.Merged.{Group, joined}
+use Rattle.mr_shards.specs.declared.line.Tally.TheVariants.{Total, Place, Files}
+use Rattle.mr_shards.specs.Index.{IsFileList}
+use Rattle.mr_shards.specs.Lines.{numbers_in, places_in}
+use Rattle.mr_shards.specs.Merged.{Group}
+use Rattle.mr_shards.specs.Portions.{no_shift, shifted_value}
+use Rattle.mr_bytes.specs.Lists.{Has}
 
 abbrev pub values_of : Tally → List Value
 values_of (Total n) = replicate n One
 values_of (Place file offset) = At file offset ∷ []
+values_of (Files list last moved) = map (shifted_value moved) (places_in (numbers_in list.now))
 
 -- the group that a line stands for
 abbrev pub group_of : Line → Group
 group_of l = record { key = l.key.now; values = values_of l.tally }
 
--- what a line writes behind its key and tab
-abbrev pub told_text : Tally → List ℕ
-told_text (Total n) = decimal n
-told_text (Place file offset) = decimal file ++ 58 ∷ decimal offset
+-- the list names files with rising numbers that fit in 32 bits, and that is the last of them
+abbrev pub IsListTo : ℕ → List ℕ → Type 0
+IsListTo last list = (last < 2 ^ 32) × ((ns : List ℕ) × IsFileList (last + 1) list ns × Has ns last)
 
 -- the job's lines tell so
 abbrev pub IsParsed : JobSpec → Tally → List ℕ → Type 0
 IsParsed (WordCount keep_case) (Total n) told = (told ≡ decimal n) × (n < 2 ^ 64)
 IsParsed (WordCount keep_case) (Place file offset) told = ⊥
+IsParsed (WordCount keep_case) (Files list last moved) told = ⊥
 IsParsed (LinesWith literal fold) (Total n) told = ⊥
 IsParsed (LinesWith literal fold) (Place file offset) told = (told ≡ decimal file ++ 58 ∷ decimal offset) × (file < 2 ^ 32) × (offset < 2 ^ 64)
+IsParsed (LinesWith literal fold) (Files list last moved) told = ⊥
 IsParsed Resources (Total n) told = (told ≡ decimal n) × (n < 2 ^ 64)
 IsParsed Resources (Place file offset) told = ⊥
-IsParsed (InvertedIndex keep_case) tally told = ⊥
+IsParsed Resources (Files list last moved) told = ⊥
+IsParsed (InvertedIndex keep_case) (Total n) told = ⊥
+IsParsed (InvertedIndex keep_case) (Place file offset) told = ⊥
+IsParsed (InvertedIndex keep_case) (Files list last moved) told = (told ≡ list.now) × (moved ≡ no_shift) × IsListTo last told
 
 -- the text begins with a line of the job
 pub record BeginsWithLine (job : JobSpec) (text : List ℕ) : Type 0 where
@@ -42,28 +51,44 @@ pub record BeginsWithLine (job : JobSpec) (text : List ℕ) : Type 0 where
   pub clear : Lacks 10 key
   pub tells : IsParsed job tally told
 
--- the job's lines tell such
+-- the job's lines tell such; the files of an index fit in 32 bits, as they are moved
 abbrev pub IsFor : JobSpec → Tally → Type 0
 IsFor (WordCount keep_case) (Total n) = Unit {0}
 IsFor (WordCount keep_case) (Place file offset) = ⊥
+IsFor (WordCount keep_case) (Files list last moved) = ⊥
 IsFor (LinesWith literal fold) (Total n) = ⊥
 IsFor (LinesWith literal fold) (Place file offset) = Unit {0}
+IsFor (LinesWith literal fold) (Files list last moved) = ⊥
 IsFor Resources (Total n) = Unit {0}
 IsFor Resources (Place file offset) = ⊥
-IsFor (InvertedIndex keep_case) tally = ⊥
+IsFor Resources (Files list last moved) = ⊥
+IsFor (InvertedIndex keep_case) (Total n) = ⊥
+IsFor (InvertedIndex keep_case) (Place file offset) = ⊥
+IsFor (InvertedIndex keep_case) (Files list last moved) = IsListTo last list.now × (moved.files + last < 2 ^ 32)
 
-abbrev pub IsPlace : Tally → Type 0
-IsPlace (Total n) = ⊥
-IsPlace (Place file offset) = Unit {0}
+-- as it stands in the output
+abbrev pub IsUnshifted : Tally → Type 0
+IsUnshifted (Total n) = Unit {0}
+IsUnshifted (Place file offset) = Unit {0}
+IsUnshifted (Files list last moved) = (moved ≡ no_shift) × IsListTo last list.now
 
--- both tell totals, or both places
-abbrev pub IsSameKind : Tally → Tally → Type 0
-IsSameKind (Total m) (Total n) = Unit {0}
-IsSameKind (Total m) (Place file offset) = ⊥
-IsSameKind (Place file offset) (Total n) = ⊥
-IsSameKind (Place file offset) (Place file' offset') = Unit {0}
+-- ---- what waits
 
--- two totals of one key, and what they are together; or lines that stay apart, of two keys or of places
-abbrev pub Combines : Line → Line → Option Line → Type 0
-Combines first second (Some l) = (first.key.now ≡ second.key.now) × (group_of l ≡ joined (group_of first) (group_of second)) × IsSameKind first.tally l.tally
-Combines first second None = (first.key.now ≡ second.key.now → ⊥) ⊎ (IsPlace first.tally ⊎ IsPlace second.tally)
+-- of an index the places of all lines of the key, and else those of the one line
+abbrev pub values_waiting : Tally → List Value → List Value
+values_waiting (Total n) places = replicate n One
+values_waiting (Place file offset) places = At file offset ∷ []
+values_waiting (Files list last moved) places = places
+
+abbrev pub waiting_group : Line → List Value → Group
+waiting_group l places = record { key = l.key.now; values = values_waiting l.tally places }
+
+abbrev pub waits : Option Line → List Value → Option Group
+waits None places = None
+waits (Some l) places = Some (waiting_group l places)
+
+-- the places of a line of an index are added to those that wait
+abbrev pub IsAdded : Tally → List Value → List Value → Type 0
+IsAdded (Total n) old new = Unit {0}
+IsAdded (Place file offset) old new = Unit {0}
+IsAdded (Files list last moved) old new = new ≡ old ++ map (shifted_value moved) (places_in (numbers_in list.now))

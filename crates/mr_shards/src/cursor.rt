@@ -7,7 +7,7 @@
 //! The next line has the least key, and of equal keys the first shard's. Each head has the first
 //! eight bytes of its key as a number: where two numbers differ, they decide without a look at
 //! keys.
-//! Invariant: the keys of a shard's totals rise, and those of places do not fall. Where they do
+//! Invariant: the keys of a shard's lines rise, and those of places do not fall. Where they do
 //! not, the line is a `BadLine`, numbered from 0.
 //! Cost: a look at each shard's head a line. Many shards are better merged in groups first.
 ghost use Rattle.std.specs.Prelude.{◌≡◌, ℕ, List, IfOk, IfSome, IsTrue, MatchOption, Some, map};
@@ -41,7 +41,7 @@ pub(crate) struct Cursor<'a> {
     pub lines: u64,
 }
 
-/// Keys of totals rise strictly; keys of places don't fall. `front` decides where it differs.
+/// Keys rise strictly; those of places don't fall. `front` decides where it differs.
 fn may_follow(job: &Job, last: Option<Line<'_>>, line: Line<'_>) -> bool
     requires last { IsFronted last }
     requires line { HasFront line }
@@ -56,7 +56,7 @@ fn may_follow(job: &Job, last: Option<Line<'_>>, line: Line<'_>) -> bool
     }
     match compare_keys(line.key, last.key) {
         Ordering::Less => false,
-        Ordering::Equal => !job.counts(),
+        Ordering::Equal => job.has_lines(),
         Ordering::Greater => true,
     }
 }

@@ -1,52 +1,81 @@
 //! The files that a line of an index names, as rising numbers: `KEY\t0,3,4\n`.
 //!
-//! Lists of one key in two portions are joined. Numbers of the second move by the files before. If
-//! a file is cut, the last number of the first list can be the first of the second: it is kept
-//! once. Invariant: the numbers rise. Cost: one pass over the text.
-ghost use Rattle.std.specs.Prelude.{◌≡◌, ◌+◌, ◌<◌, ◌≤◌, ◌^◌, ◌∷◌, [], List, ℕ, IfSome, None, OnOk};
-ghost use Rattle.std.specs.Prelude.{decimal, length, true, false, map};
-ghost use Rattle.mr_shards.specs.Lines.{fields};
-ghost use Rattle.mr_shards.specs.Index.{IsFileList, NumbersJoin, NumbersMove, NumbersRead};
-ghost use Rattle.mr_shards.specs.Index.{fields_left, joined_numbers, last_is, size_left};
+//! A line is read twice: once to test it and for its last file, where it comes, and once for all of
+//! its files, where the lines of its key are joined (`waiting.rt`). Each file is a place there, moved
+//! as the places of the shard move. Invariant: the numbers rise. Cost: one pass over the text each.
+ghost use Rattle.std.specs.Prelude.{◌≡◌, ◌+◌, ◌<◌, ◌≤◌, ◌^◌, ◌∷◌, ◌++◌, ℕ, IfSome, None};
+ghost use Rattle.std.specs.Prelude.{OnOk, MatchOption, decimal, length, map};
+ghost use Rattle.mr_bytes.specs.declared.Value.TheVariants.{At};
+ghost use Rattle.mr_shards.specs.Lines.{fields, numbers_in, places_in};
+ghost use Rattle.mr_shards.specs.Index.{NumbersMove, NumbersRead};
+ghost use Rattle.mr_shards.specs.Index.{fields_left, number_past, size_left};
+ghost use Rattle.mr_shards.specs.Portions.{shifted_value};
+ghost use Rattle.mr_shards.specs.Views.{IsListTo};
 
 use crate::line::number_of;
-use mr_bytes::cut;
+use crate::shift::{Shift, shifted_file};
+use mr_bytes::{Value, cut};
 use std::alloc::AllocError;
 
-/// The files of two groups of a key are their joined lists; moved files are moved numbers; and a
-/// list of numbers is read back from its text.
+/// Moved files are moved numbers, and a list of numbers is read back from its text.
 pub fn index_law()
-    ensures join { NumbersJoin }
     ensures moved { NumbersMove }
     ensures read { NumbersRead }
 {}
 
-/// Adds the numbers that the list contains, each moved by `before`, behind those of earlier
-/// portions; a number that is already the last isn't added again. It takes rising numbers below
-/// `files`, and no other text.
-pub fn add_files(
-    numbers: &mut Vec<u32>,
-    list: &[u8],
-    files: u32,
-    before: u32,
-) -> Result<bool, AllocError>
-    requires { before + files < 2 ^ 32 }
-    ensures taken { OnOk result (result ≡ Ok true → (ns : List ℕ) × IsFileList files list.now ns
-        × (numbers.new.items ≡ joined_numbers numbers.old.items (map (λ n. before + n) ns))) }
-    ensures refused { result ≡ Ok false → (ns : List ℕ) → IsFileList files list.now ns → ⊥ }
+/// The last number of a list. It takes rising numbers that fit in 32 bits, and no other text.
+pub(crate) fn last_file(list: &[u8]) -> Option<u32>
+    ensures { MatchOption result ((n : ℕ) → IsListTo n list.now → ⊥) (λ n. IsListTo n list.now) }
 {
     let mut left = Some(list);
-    let mut least = 0;
+    let mut last = None;
     while let Some(text) = left {
         let (field, rest) = next_field(text);
-        let Some(number) = file_in(field, least, files) else {
-            return Ok(false);
+        let Some(number) = file_past(field, last) else {
+            return None;
         };
-        add_number(numbers, before + number)?;
-        least = number + 1;
+        last = Some(number);
         left = rest;
     }
-    Ok(true)
+    last
+}
+
+/// Adds a place in each file of the list, moved.
+pub(crate) fn add_places(
+    places: &mut Vec<Value>,
+    list: &[u8],
+    last: u32,
+    moved: Shift,
+) -> Result<(), AllocError>
+    requires list { IsListTo last list.now }
+    requires fits { moved.files + last < 2 ^ 32 }
+    ensures { OnOk result (places.new.items
+        ≡ places.old.items ++ map (shifted_value moved) (places_in (numbers_in list.now))) }
+{
+    let mut left = Some(list);
+    let mut before = None;
+    while let Some(text) = left {
+        let (field, rest) = next_field(text);
+        let Some(number) = file_past(field, before) else {
+            return Ok(());
+        };
+        let Some(place) = place_in(number, moved) else {
+            return Ok(());
+        };
+        places.push(place)?;
+        before = Some(number);
+        left = rest;
+    }
+    Ok(())
+}
+
+/// A place in a file, moved; none if the file's number doesn't fit in 32 bits.
+fn place_in(number: u32, moved: Shift) -> Option<Value>
+    ensures { MatchOption result (2 ^ 32 ≤ moved.files + number) (λ v. v ≡ shifted_value moved (At number 0)) }
+{
+    let file = shifted_file(&moved, number as u64)?;
+    let offset = if number == 0 { moved.bytes } else { 0 };
+    Some(Value::At { file, offset })
 }
 
 /// The bytes before the first comma, and those behind it if there is one.
@@ -60,41 +89,29 @@ fn next_field(text: &[u8]) -> (&[u8], Option<&[u8]>)
     }
 }
 
-/// The number in a field, if it is at least `least` and below `files`.
-fn file_in(field: &[u8], least: u32, files: u32) -> Option<u32>
+/// The number in a field, if it is greater than the last one and fits in 32 bits.
+fn file_past(field: &[u8], last: Option<u32>) -> Option<u32>
     ensures number { IfSome result (λ n. field.now ≡ decimal n) }
-    ensures within { IfSome result (λ n. (least ≤ n) × (n < files)) }
-    ensures none { result ≡ None → (n : ℕ) → field.now ≡ decimal n → least ≤ n → n < files → ⊥ }
+    ensures past { IfSome result (λ n. number_past last ≤ n) }
+    ensures none { result ≡ None → (n : ℕ) → field.now ≡ decimal n → number_past last ≤ n → n < 2 ^ 32 → ⊥ }
 {
     let Some(number) = number_of(field) else {
         return None;
     };
-    if number < least as u64 {
+    if number < least_past(last) {
         return None;
     }
-    if number >= files as u64 {
+    if number >= 1 << 32 {
         return None;
     }
     Some(number as u32)
 }
 
-/// Adds a number at the end, unless it is the last already.
-fn add_number(numbers: &mut Vec<u32>, number: u32) -> Result<(), AllocError>
-    ensures { OnOk result (numbers.new.items ≡ joined_numbers numbers.old.items (number ∷ [])) }
+fn least_past(last: Option<u32>) -> u64
+    ensures { result ≡ number_past last }
 {
-    if is_last(numbers.as_slice(), number) {
-        return Ok(());
+    match last {
+        Some(number) => number as u64 + 1,
+        None => 0,
     }
-    numbers.push(number)?;
-    Ok(())
-}
-
-fn is_last(numbers: &[u32], number: u32) -> bool
-    ensures { result ≡ last_is number numbers.now }
-{
-    let count = numbers.len();
-    if count == 0 {
-        return false;
-    }
-    numbers[count - 1] == number
 }

@@ -1,8 +1,7 @@
-//! Shards: stretches of an input's files are judged apart; their outputs merge to the whole's.
+//! Shards: stretches of an input's files are judged apart; their outputs merge to the whole's, for
+//! each job.
 //! A shard may begin and end inside a file, at a line end (`ranges.rt`).
 //! Verdicts: what a judge accepted, as text for others; the verdicts of shards join to one.
-//! An index can't be merged: its lines name several files; a merged line has one total or place.
-//! The laws hold for an index too.
 #![tactic(auto)]
 
 mod cursor;
@@ -17,15 +16,16 @@ mod reading;
 mod shift;
 mod spots;
 mod verdict;
+mod waiting;
 mod window;
 
 ghost use Rattle.mr_shards.specs.Judged.{GoodIsJudged, StretchIsTrue};
 ghost use Rattle.mr_shards.specs.Lines.{OneReading};
 ghost use Rattle.mr_shards.specs.Laws.{OneText};
 
-pub use file_numbers::{add_files, index_law};
+pub use file_numbers::index_law;
 pub use joining::{JoinFault, first_repeat, join_verdicts, joined_law};
-pub use line::number_of;
+pub use line::{cut_first, cut_last, number_of};
 pub use merger::{MergeFault, Merger, ShardText, merge_parts};
 pub use portions::{left_out_law, lines_law, portions_law, worked_law};
 pub use ranges::{FileRange, Gap, first_gap, goes_on, ranges_law, tile_law};

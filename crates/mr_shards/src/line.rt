@@ -1,34 +1,40 @@
-//! A line of an output: `KEY\tTOTAL\n` or `KEY\tFILE:OFFSET\n`.
-ghost use Rattle.std.specs.Prelude.{◌≡◌, ◌<◌, ◌≤◌, ◌+◌, ◌*◌, ◌^◌, ◌++◌, ℕ, [], ◌∷◌, IfErr, IfOk};
-ghost use Rattle.std.specs.Prelude.{IfSome, MatchOption, None, Some, OnOk, decimal, map};
-ghost use Rattle.mr_jobs.specs.JobSpec.{counts};
+//! A line of an output: `KEY\tTOTAL\n`, `KEY\tFILE:OFFSET\n` or, of an index, `KEY\tFILE,FILE\n`.
+ghost use Rattle.std.specs.Prelude.{◌≡◌, ◌<◌, ◌≤◌, ◌+◌, ◌*◌, ◌^◌, ◌++◌, ℕ, ◌∷◌, IfErr, IfOk};
+ghost use Rattle.std.specs.Prelude.{IfSome, MatchOption, None, Some, decimal, map};
+ghost use Rattle.mr_jobs.specs.JobSpec.{JobSpec};
 ghost use Rattle.mr_bytes.specs.Cut.{Lacks};
 ghost use Rattle.mr_shards.specs.Lines.{groups_in};
 ghost use Rattle.mr_shards.specs.Merged.{group_text};
 ghost use Rattle.mr_shards.specs.declared.line.Tally.{Tally};
 ghost use Rattle.mr_shards.specs.Cursors.{HasFront};
-ghost use Rattle.mr_shards.specs.Refused.{AreInFiles, IsBadPlace, IsLineOf, IsUnmoved, Overflows};
-ghost use Rattle.mr_shards.specs.declared.line.Tally.TheVariants.{Place as told_place};
+ghost use Rattle.mr_shards.specs.Refused.{AreInFiles, IsBadPlace, IsLineOf, IsUnmoved};
 ghost use Rattle.mr_shards.specs.Portions.{shifted_start as moved_start};
-ghost use Rattle.mr_shards.specs.Views.{BeginsWithLine, Combines, IsFor, IsSameKind, IsParsed};
+ghost use Rattle.mr_shards.specs.Views.{BeginsWithLine, IsFor, IsParsed, IsUnshifted};
 ghost use Rattle.mr_shards.specs.Portions.{shifted_group, shifted_value};
 ghost use Rattle.mr_shards.specs.Views.{group_of, values_of};
 
+use crate::file_numbers::last_file;
 use crate::merger::MergeFault;
 use crate::shift::{Shift, shifted_file, shifted_start};
 use itoa::Buffer;
 use memchr::{memchr, memrchr};
-use mr_bytes::Value;
 use mr_group::front_of;
 use mr_jobs::Job;
-use mr_reduce::{append_total, group_text};
-use std::alloc::AllocError;
 
-/// The number of a key's values, or one of its places.
+/// The number of a key's values, or one of its places, or its files in an index.
 #[derive(Clone, Copy)]
-pub(crate) enum Tally {
+pub(crate) enum Tally<'a> {
     Total(u64),
-    Place { file: u32, offset: u64 },
+    Place {
+        file: u32,
+        offset: u64,
+    },
+    /// The list, the last file that it names, and how far its files are moved.
+    Files {
+        list: &'a [u8],
+        last: u32,
+        moved: Shift,
+    },
 }
 
 #[derive(Clone, Copy)]
@@ -36,11 +42,11 @@ pub(crate) struct Line<'a> {
     pub key: &'a [u8],
     /// The key's first eight bytes as a number, which decides most comparisons.
     pub front: u64,
-    pub tally: Tally,
+    pub tally: Tally<'a>,
 }
 
 /// Splits the text at the first `mark`.
-pub(crate) fn cut_first(text: &[u8], mark: u8) -> Option<(&[u8], &[u8])>
+pub fn cut_first(text: &[u8], mark: u8) -> Option<(&[u8], &[u8])>
     ensures { MatchOption result (Lacks mark text.now)
         (λ r. (text.now ≡ r.0.now ++ mark ∷ r.1.now) × Lacks mark r.0.now) }
 {
@@ -51,7 +57,7 @@ pub(crate) fn cut_first(text: &[u8], mark: u8) -> Option<(&[u8], &[u8])>
 }
 
 /// Splits the text at the last `mark`.
-pub(crate) fn cut_last(text: &[u8], mark: u8) -> Option<(&[u8], &[u8])>
+pub fn cut_last(text: &[u8], mark: u8) -> Option<(&[u8], &[u8])>
     ensures { MatchOption result (Lacks mark text.now)
         (λ r. (text.now ≡ r.0.now ++ mark ∷ r.1.now) × Lacks mark r.1.now) }
 {
@@ -143,9 +149,10 @@ fn place_of(told: &[u8]) -> Option<(u32, u64)>
     Some((file, offset))
 }
 
-/// What follows the key. It refuses a line of an index, which names several files.
-fn tally_of(job: &Job, told: &[u8]) -> Option<Tally>
-    ensures { MatchOption result ((t : Tally) → IsParsed job.now t told.now → ⊥) (λ t. IsParsed job.now t told.now) }
+/// What follows the key.
+fn tally_of<'a>(job: &Job, told: &'a [u8]) -> Option<Tally<'a>>
+    ensures { MatchOption result ((t : Tally) → IsParsed job.now t told.entry.now → ⊥)
+        (λ t. IsParsed job.now t told.entry.now) }
 {
     if job.counts() {
         match number_of(told) {
@@ -158,7 +165,14 @@ fn tally_of(job: &Job, told: &[u8]) -> Option<Tally>
             None => None,
         }
     } else {
-        None
+        match last_file(told) {
+            Some(last) => Some(Tally::Files {
+                list: told,
+                last,
+                moved: Shift { files: 0, bytes: 0 },
+            }),
+            None => None,
+        }
     }
 }
 
@@ -166,6 +180,7 @@ fn tally_of(job: &Job, told: &[u8]) -> Option<Tally>
 pub(crate) fn first_line<'a>(job: &Job, text: &'a [u8]) -> Option<(Line<'a>, &'a [u8])>
     ensures read { IfSome result (λ r. groups_in job.now text.entry.now ≡ group_of r.0 ∷ groups_in job.now r.1.now) }
     ensures kind { IfSome result (λ r. IsFor job.now r.0.tally) }
+    ensures still { IfSome result (λ r. IsUnshifted r.0.tally) }
     ensures front { IfSome result (λ r. HasFront r.0) }
     ensures line { IfSome result (λ r. IsLineOf job.now (group_of r.0)) }
     ensures text { IfSome result (λ r. text.entry.now ≡ group_text job.now (group_of r.0) ++ r.1.now) }
@@ -191,8 +206,8 @@ fn moved_place(
     before: Shift,
     file: u32,
     offset: u64,
-) -> Result<Tally, MergeFault>
-    ensures ok { IfOk result (λ t. t ≡ told_place (before.files + file) (moved_start before file offset)) }
+) -> Result<(u32, u64), MergeFault>
+    ensures ok { IfOk result (λ p. (p.0 ≡ before.files + file) × (p.1 ≡ moved_start before file offset)) }
     ensures own { IfOk result (λ _. file < count) }
     ensures err { IfErr result (λ e. IsBadPlace shard count before e file offset) }
 {
@@ -203,20 +218,34 @@ fn moved_place(
         return Err(MergeFault::PlaceTooFar);
     };
     match shifted_file(&before, file as u64) {
-        Some(file) => Ok(Tally::Place { file, offset }),
+        Some(file) => Ok((file, offset)),
         None => Err(MergeFault::TooManyFiles),
     }
 }
 
-fn moved_tally(tally: Tally, shard: usize, count: u32, before: Shift) -> Result<Tally, MergeFault>
-    ensures values { IfOk result (λ t. values_of t ≡ map (shifted_value before) (values_of tally)) }
-    ensures kind { IfOk result (λ t. IsSameKind tally t) }
-    ensures own { IfOk result (λ _. AreInFiles count (values_of tally)) }
-    ensures err { IfErr result (IsUnmoved shard count before tally) }
+fn moved_tally<'a>(
+    tally: Tally<'a>,
+    shard: usize,
+    count: u32,
+    before: Shift,
+) -> Result<Tally<'a>, MergeFault>
+    requires { IsUnshifted tally }
+    ensures values { IfOk result (λ t. values_of t ≡ map (shifted_value before) (values_of tally.entry)) }
+    ensures kind { IfOk result (λ t. (job : JobSpec) → IsFor job tally.entry → IsFor job t) }
+    ensures own { IfOk result (λ _. AreInFiles count (values_of tally.entry)) }
+    ensures err { IfErr result (IsUnmoved shard count before tally.entry) }
 {
     match tally {
         Tally::Total(total) => Ok(Tally::Total(total)),
-        Tally::Place { file, offset } => moved_place(shard, count, before, file, offset),
+        Tally::Place { file, offset } => {
+            let (file, offset) = moved_place(shard, count, before, file, offset)?;
+            Ok(Tally::Place { file, offset })
+        }
+        Tally::Files { list, last, .. } => {
+            moved_place(shard, count, before, last, 0)?;
+            let moved = before;
+            Ok(Tally::Files { list, last, moved })
+        }
     }
 }
 
@@ -227,8 +256,9 @@ pub(crate) fn moved<'a>(
     count: u32,
     before: Shift,
 ) -> Result<Line<'a>, MergeFault>
+    requires { IsUnshifted line.tally }
     ensures group { IfOk result (λ l. group_of l ≡ shifted_group before (group_of line.entry)) }
-    ensures kind { IfOk result (λ l. IsSameKind line.entry.tally l.tally) }
+    ensures kind { IfOk result (λ l. (job : JobSpec) → IsFor job line.entry.tally → IsFor job l.tally) }
     ensures front { IfOk result (λ l. HasFront line.entry → HasFront l) }
     ensures own { IfOk result (λ _. AreInFiles count (values_of line.entry.tally)) }
     ensures err { IfErr result (IsUnmoved shard count before line.entry.tally) }
@@ -237,47 +267,4 @@ pub(crate) fn moved<'a>(
         tally: moved_tally(line.tally, shard, count, before)?,
         ..line
     })
-}
-
-/// The sum of two totals of one key; none for other lines.
-pub(crate) fn combined<'a>(
-    first: Line<'a>,
-    second: Line<'a>,
-) -> Result<Option<Line<'a>>, MergeFault>
-    ensures ok { IfOk result (Combines first.entry second.entry) }
-    ensures err { IfErr result (λ e. (e ≡ MergeFault.TotalTooLarge) × Overflows (Some first.entry) second.entry) }
-{
-    let (Tally::Total(a), Tally::Total(b)) = (first.tally, second.tally) else {
-        return Ok(None);
-    };
-    if first.key != second.key {
-        return Ok(None);
-    }
-    match a.checked_add(b) {
-        Some(total) => Ok(Some(Line {
-            tally: Tally::Total(total),
-            ..first
-        })),
-        None => Err(MergeFault::TotalTooLarge),
-    }
-}
-
-/// Appends the text of a line.
-pub(crate) fn put(job: &Job, line: Line<'_>, out: &mut Vec<u8>) -> Result<(), AllocError>
-    ensures { OnOk result (out.new.items ≡ out.old.items ++ group_text job.now (group_of line.entry)) }
-{
-    match line.tally {
-        Tally::Total(total) => {
-            // A job that doesn't count writes values without places like no values.
-            if job.counts() {
-                append_total(line.key, total, out)?;
-            } else {
-                group_text(job, line.key, &[], out)?;
-            }
-        }
-        Tally::Place { file, offset } => {
-            group_text(job, line.key, &[Value::At { file, offset }], out)?;
-        }
-    }
-    Ok(())
 }

@@ -3,9 +3,10 @@
 //!     shard 0  a 2 | c 1 |
 //!     shard 1  a 3 | b 1 |    ->    a 5 | b 1 | c 1 |
 //!
-//! Equal keys come in the order of the shards. Totals of a key add up; a place moves by the files of
-//! the shards before, and by their bytes of a file that goes on (`shift.rt`). Invariant: `out` and the line that waits are the merge of the
-//! lines taken. Cost: each line takes one look at the next line of every shard.
+//! Equal keys come in the order of the shards. Totals of a key add up, and files of a key in an
+//! index become one list (`waiting.rt`). A place moves by the files of the shards before, and by
+//! their bytes of a file that goes on (`shift.rt`). Invariant: `out` and the key that waits are the
+//! merge of the lines taken. Cost: each line takes one look at the next line of every shard.
 ghost use Rattle.std.specs.Prelude.{◌≡◌, ℕ, ◌≤◌, ◌++◌, ◌∷◌, [], IfErr, IfOk, OnErr, OnOk, length};
 ghost use Rattle.std.specs.Prelude.{map, option_map, List, Some, MatchOption, true, false, ◌<◌};
 ghost use Rattle.std.specs.Prelude.{None};
@@ -14,19 +15,18 @@ ghost use Rattle.mr_shards.specs.Pieces.{fresh_all, is_past, moved_to, nothing, 
 ghost use Rattle.mr_shards.specs.Pieces.{whole_window, IsMerged};
 ghost use Rattle.mr_shards.specs.Places.{kept, shown};
 ghost use Rattle.std.specs.List.{AllByRecursion};
-ghost use Rattle.mr_shards.specs.Cursors.{BlamesAt, Goes, IsFronted, IsHeadFor, ReadsOn};
-ghost use Rattle.mr_shards.specs.Cursors.{with_waiting};
+ghost use Rattle.mr_shards.specs.Cursors.{BlamesAt, IsFronted, IsHeadFor, ReadsOn};
 ghost use Rattle.mr_shards.specs.Merged.{texts};
-ghost use Rattle.mr_shards.specs.Refused.{Blames, IsShardText, PassesNot, TakesNot};
+ghost use Rattle.mr_shards.specs.Refused.{Blames, IsShardText, PassesNot};
 ghost use Rattle.mr_shards.specs.Portions.{behind, merged_portions, past_shard};
 ghost use Rattle.mr_shards.specs.Outputs.{AreAtFirst, IsOutputOfAll, parts_in};
 
 use crate::cursor::{Cursor, advanced, next_line};
-use crate::line::{Line, combined, put};
 use crate::piece::{
     all_read, cuts_before, expect_order, held_of, merge_pieces, no_bytes, whole_windows,
 };
 use crate::shift::{ShardFiles, Shift, shifted_file, shifted_start};
+use crate::waiting::{put, taken};
 use crate::window::{Held, Place, Window, all_last, place_of};
 use mr_bytes::compare_keys;
 use mr_jobs::Job;
@@ -131,13 +131,14 @@ impl Merger {
 
     /// Merges what it can of the windows, appends the text, and returns how many bytes it took of
     /// each. If all windows are the last, it takes all. Else it takes the lines before the least of
-    /// the last whole lines' keys, over windows with more to come. A job that counts leaves that
-    /// key's lines together. Another job takes them from the shards before the first that has it as
-    /// its last key, and all but the last line from that shard: windows go even if they have only
-    /// one key. If a window with more to come has no whole line, it takes nothing. Lines that are
-    /// not the job's or are out of order are refused, by their number in the whole output. Of good
-    /// outputs it takes something wherever each window with more to come has two whole lines. So if
-    /// it takes nothing it searches the lines for one to refuse, and no window need grow for that.
+    /// the last whole lines' keys, over windows with more to come. A job that joins the lines of a
+    /// key leaves that key's lines together. Another job takes them from the shards before the first
+    /// that has it as its last key, and all but the last line from that shard: windows go even if
+    /// they have only one key. If a window with more to come has no whole line, it takes nothing.
+    /// Lines that are not the job's or are out of order are refused, by their number in the whole
+    /// output. Of good outputs it takes something wherever each window with more to come has two
+    /// whole lines. So if it takes nothing it searches the lines for one to refuse, and no window
+    /// need grow for that.
     pub fn step(
         &mut self,
         alloc: Global,
@@ -239,7 +240,7 @@ impl Merger {
 /// Why outputs are not merged. Shards and lines are numbered from 0.
 #[derive(Clone, Copy, Debug, PartialEq, Eq, Drop, Error)]
 pub enum MergeFault {
-    /// The line isn't of the job's form, its key is out of order, or it is of an index.
+    /// The line isn't of the job's form, or its key or a number of its files is out of order.
     #[error("BadLine shard {shard} line {line}")]
     BadLine { shard: usize, line: u64 },
     /// The total of a key doesn't fit in 64 bits.
@@ -325,35 +326,6 @@ fn open_all<'a>(
     Ok(cursors)
 }
 
-/// Adds the line to the waiting one if they combine; else writes that one. Returns what waits now.
-fn taken<'a>(
-    job: &Job,
-    waiting: Option<Line<'a>>,
-    line: Line<'a>,
-    out: &mut Vec<u8>,
-) -> Result<Line<'a>, MergeFault>
-    ensures ok { IfOk result (λ l. Goes job.now waiting.entry line.entry l out.old.items out.new.items) }
-    ensures err { IfErr result (TakesNot waiting.entry line.entry) }
-{
-    let Some(before) = waiting else {
-        return Ok(line);
-    };
-    if let Some(both) = combined(before, line)? {
-        return Ok(both);
-    }
-    put(job, before, out)?;
-    Ok(line)
-}
-
-fn put_last(job: &Job, waiting: Option<Line<'_>>, out: &mut Vec<u8>) -> Result<(), AllocError>
-    ensures { OnOk result (out.new.items ≡ out.old.items ++ texts job.now (with_waiting waiting.entry [])) }
-{
-    match waiting {
-        Some(last) => put(job, last, out),
-        None => Ok(()),
-    }
-}
-
 fn go_on<'a>(job: &Job, cursors: &mut Vec<Cursor<'a>>, at: usize) -> Result<(), MergeFault>
     requires within { at < length cursors.old.items }
     requires heads { AllByRecursion (λ c. IsFronted c.head) cursors.old.items }
@@ -366,6 +338,7 @@ fn go_on<'a>(job: &Job, cursors: &mut Vec<Cursor<'a>>, at: usize) -> Result<(), 
 }
 
 fn merge_lines<'a>(
+    alloc: Global,
     job: &Job,
     cursors: &mut Vec<Cursor<'a>>,
     out: &mut Vec<u8>,
@@ -378,18 +351,19 @@ fn merge_lines<'a>(
         → AreAtFirst job.now cursors.old.items os → Blames job.now os e) }
 {
     let mut waiting = None;
+    let mut places = Vec::new(alloc);
     let mut last = None;
     while let Some((at, line)) = next_line(cursors, last) {
         go_on(job, cursors, at)?;
-        waiting = Some(taken(job, waiting, line, out)?);
+        waiting = Some(taken(job, waiting, &mut places, line, out)?);
         last = Some((at, line));
     }
-    put_last(job, waiting, out)?;
+    put(job, waiting, places.as_slice(), out)?;
     Ok(())
 }
 
 /// Merges the outputs that shards have for one partition, in the order of the shards. It refuses
-/// lines that aren't the job's or are out of order, and any line of an index.
+/// lines that aren't the job's or are out of order.
 pub fn merge_parts(
     alloc: Global,
     job: &Job,
@@ -402,6 +376,6 @@ pub fn merge_parts(
 {
     let mut cursors = open_all(alloc, job, outputs)?;
     let mut out = Vec::new(alloc);
-    merge_lines(job, &mut cursors, &mut out)?;
+    merge_lines(alloc, job, &mut cursors, &mut out)?;
     Ok(out)
 }

@@ -8,14 +8,13 @@
 //! It names the job by number, flags and literal, as a certificate does. It tells where the records
 //! begin that are left out, and not how many a request allows. A name goes to the end of its line,
 //! so it has no line feed, and each verdict has one text. Old texts, of version 1, tell a file by
-//! `input SHA-256 LENGTH NAME`. `request_of` makes the request, if its outputs can be merged.
+//! `input SHA-256 LENGTH NAME`. `request_of` makes the request.
 //! Cost: linear in the text; a note reads the bytes of its file once.
 //! Source: docs/FORMATS.md, "The verdict".
-ghost use Rattle.std.specs.Prelude.{◌≡◌, ◌↔◌, IfOk, IfSome, IsTrue, MatchOption, ℕ, [], ◌∷◌, ◌++◌};
+ghost use Rattle.std.specs.Prelude.{◌≡◌, ◌↔◌, IfOk, IsTrue, MatchOption, ℕ, [], ◌∷◌, ◌++◌};
 ghost use Rattle.std.specs.Prelude.{◌==◌, OnOk, decimal, if◌then◌else◌, map};
 ghost use Rattle.mr_bytes.specs.declared.By.{By};
 ghost use Rattle.mr_jobs.specs.JobSpec.{RequestSpec, Resources};
-ghost use Rattle.mr_shards.specs.Lines.{CanMerge};
 ghost use Rattle.mr_shards.specs.Truth.{Asks, AsksNone, CanBeMade, NamesJob, by_told, IsNoteOf};
 ghost use Rattle.mr_shards.specs.Truth.{ends_line, note_for, range_for, ranges_for, verdict_for};
 ghost use Rattle.std.specs.List.{flat_map};
@@ -119,13 +118,11 @@ pub fn asks(verdict: &Verdict, request: &Request) -> bool
         && verdict.split == request.split_size()
 }
 
-/// The only job that the verdict may name, if outputs of that job can be merged.
+/// The only job that the verdict may name.
 fn job_named(alloc: Global, verdict: &Verdict) -> Result<Option<Job>, AllocError>
-    ensures named { IfOk result (λ r. MatchOption r
-        ((request : RequestSpec) → CanBeMade request → CanMerge request.job
-        → NamesJob verdict.now request → ⊥)
+    ensures { IfOk result (λ r. MatchOption r
+        ((request : RequestSpec) → CanBeMade request → NamesJob verdict.now request → ⊥)
         (λ j. (request : RequestSpec) → CanBeMade request → NamesJob verdict.now request → j ≡ request.job)) }
-    ensures mergeable { IfOk result (λ r. IfSome r (λ j. CanMerge j)) }
 {
     match verdict.job {
         1 => Ok(Some(Job::words(verdict.flags == 1))),
@@ -134,7 +131,7 @@ fn job_named(alloc: Global, verdict: &Verdict) -> Result<Option<Job>, AllocError
             Err(JobFault::OutOfMemory) => Err(AllocError),
             Err(_) => Ok(None),
         },
-        4 => Ok(None),
+        4 => Ok(Some(Job::index(verdict.flags == 1))),
         _ => Ok(Some(Job::url())),
     }
 }
@@ -152,11 +149,9 @@ fn by_named(request: Request, verdict: &Verdict) -> Option<Request>
     }
 }
 
-/// A request that the verdict is about, with no record left out; none if there is no such request
-/// or its outputs can't be merged, as those of an index.
+/// A request that the verdict is about, with no record left out; none if there is no such request.
 pub fn request_of(alloc: Global, verdict: &Verdict) -> Result<Option<Request>, AllocError>
-    ensures asks { IfOk result (λ r. MatchOption r (AsksNone verdict.now) (λ q. Asks verdict.now q)) }
-    ensures mergeable { IfOk result (λ r. IfSome r (λ q. CanMerge q.job)) }
+    ensures { IfOk result (λ r. MatchOption r (AsksNone verdict.now) (λ q. Asks verdict.now q)) }
 {
     let Some(job) = job_named(alloc, verdict)? else {
         return Ok(None);

@@ -113,14 +113,14 @@ fn least_place<'a>(windows: &[Window<'a>]) -> Option<Place<'a>>
     least
 }
 
-/// The place up to which lines may be taken. A job that counts keeps the lines of a key together.
+/// The place up to which lines may be taken. Only places of one key are taken apart.
 pub(crate) fn place_of<'a>(job: &Job, windows: &[Window<'a>]) -> Option<Place<'a>>
     ensures { option_map shown result ≡ option_map (place_for job.now) (least_last None 0 windows.entry.now) }
 {
     let least = least_place(windows)?;
     Some(Place {
         key: least.key,
-        shards: if job.counts() { 0 } else { least.shards },
+        shards: if job.has_lines() { least.shards } else { 0 },
     })
 }
 

@@ -65,4 +65,4 @@ returns-in_err-line-clause-err c =
     handed (BlamesOnly c.args.job.now c.args.shard c.args.cursor.count c.args.cursor.before (last_key c.args.cursor.head) c.args.cursor.rest.now c.args.cursor.lines) c.from_residual.result c.in_err-line.field-0.0
     (err_from_is_err_and c.from_residual.result c.from_residual.ensures.1)
     (unmoved-line c.args.job.now c.args.shard c.args.cursor.count c.args.cursor.before (last_key c.args.cursor.head) c.args.cursor.rest.now c.args.cursor.lines c.in-Some.line c.in-Some.rest.now
-    c.in_err-line.field-0.0 c.in-Some.ensures.line c.in-Some.ensures.text c.in_err-line.ensures.err)
+    c.in-Some.ensures.line c.in-Some.ensures.text c.in_err-line.field-0.0 c.in-Some.ensures.still c.in_err-line.ensures.err)

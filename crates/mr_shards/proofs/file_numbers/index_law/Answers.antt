@@ -1,8 +1,6 @@
-use Rattle.mr_shards.proofs.FileNumberLemmas.{numbers_join, numbers_move, numbers_read}
+use Rattle.mr_shards.proofs.FileNumberLemmas.{numbers_move}
+use Rattle.mr_shards.proofs.ReadingLemmas.{numbers_read}
 use Rattle.mr_shards.proofs.file_numbers.index_law.Goals as goal
-
-pub returns-clause-join : goal.returns-clause-join
-returns-clause-join c = numbers_join
 
 pub returns-clause-moved : goal.returns-clause-moved
 returns-clause-moved c = numbers_move

@@ -2,7 +2,6 @@ use Rattle.std.proofs.Common.{◌≡◌, ap, sym, ◌∙◌, subst, true≢false
 use Rattle.std.specs.Prelude.{Option, Some, MatchOption}
 use Rattle.mr_bytes.specs.declared.By.TheVariants.{Host}
 use Rattle.mr_jobs.specs.JobSpec.{ByFits, JobSpec, RequestSpec, Resources}
-use Rattle.mr_shards.specs.Lines.{CanMerge}
 use Rattle.mr_shards.specs.Truth.{Asks, CanBeMade, NamesJob, by_told}
 use Rattle.mr_shards.specs.Verdict.{Told}
 use Rattle.mr_shards.proofs.FlagLemmas.{by_of}
@@ -10,22 +9,22 @@ use Rattle.mr_shards.proofs.verdict.request_of.Goals as goal
 
 -- where a job is named, each request that the verdict is about has it
 job_is : (o : Option JobSpec) (job : JobSpec) (v : Told) → o ≡ Some job
-    → MatchOption o ((r : RequestSpec) → CanBeMade r → CanMerge r.job → NamesJob v r → ⊥) (λ j. (r : RequestSpec) → CanBeMade r → NamesJob v r → j ≡ r.job)
+    → MatchOption o ((r : RequestSpec) → CanBeMade r → NamesJob v r → ⊥) (λ j. (r : RequestSpec) → CanBeMade r → NamesJob v r → j ≡ r.job)
     → (r : RequestSpec) → CanBeMade r → NamesJob v r → job ≡ r.job
 job_is o job v is named =
-    subst (λ x. MatchOption x ((r : RequestSpec) → CanBeMade r → CanMerge r.job → NamesJob v r → ⊥) (λ j. (r : RequestSpec) → CanBeMade r → NamesJob v r → j ≡ r.job)) is named
+    subst (λ x. MatchOption x ((r : RequestSpec) → CanBeMade r → NamesJob v r → ⊥) (λ j. (r : RequestSpec) → CanBeMade r → NamesJob v r → j ≡ r.job)) is named
 
-pub returns-in_default-by_named-clause-asks : goal.returns-in_default-by_named-clause-asks
-returns-in_default-by_named-clause-asks c = λ request fits can asks.
-    let same : c.in-Some.job ≡ request.job = job_is c.in_ok-job.field-0 c.in-Some.job c.args.verdict.now c.in-Some.is c.in_ok-job.ensures.named request fits (asks.0, asks.1, asks.2) in
+pub returns-in_default-by_named : goal.returns-in_default-by_named
+returns-in_default-by_named c = λ request fits asks.
+    let same : c.in-Some.job ≡ request.job = job_is c.in_ok-job.field-0 c.in-Some.job c.args.verdict.now c.in-Some.is c.in_ok-job.ensures request fits (asks.0, asks.1, asks.2) in
     let none = c.in_default-by_named.ensures in
     let host : request.by ≡ Host = sym (by_of request.job request.by fits.1) ∙ ap by_told (sym asks.1 ∙ none.0) in
     let url : request.job ≡ Resources = subst (ByFits request.job) host fits.1 in
     none.1 (ap (λ (r : RequestSpec). r.job) c.in-Ok.ensures.value ∙ same ∙ url)
 
-pub returns-else-asks-clause-asks : goal.returns-else-asks-clause-asks
-returns-else-asks-clause-asks c = λ request fits can asks.
-    let same : c.in-Some.job ≡ request.job = job_is c.in_ok-job.field-0 c.in-Some.job c.args.verdict.now c.in-Some.is c.in_ok-job.ensures.named request fits (asks.0, asks.1, asks.2) in
+pub returns-else-asks : goal.returns-else-asks
+returns-else-asks c = λ request fits asks.
+    let same : c.in-Some.job ≡ request.job = job_is c.in_ok-job.field-0 c.in-Some.job c.args.verdict.now c.in-Some.is c.in_ok-job.ensures request fits (asks.0, asks.1, asks.2) in
     let value = c.in-Ok.ensures.value in
     let job : c.in-Ok.request.job ≡ request.job = ap (λ (r : RequestSpec). r.job) value ∙ same in
     let by : by_told c.args.verdict.now.flags ≡ request.by = ap by_told asks.1 ∙ by_of request.job request.by fits.1 in
