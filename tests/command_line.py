@@ -48,7 +48,7 @@ def faults(harness):
     got = harness.run(["seq", "--job", "words", "--out", ".", b"\xff"], {b"\xff": b"a\n"})
     harness.check("a word that is not UTF-8", got[:3] == (2, b"", b"mapred: a word of the command line is not UTF-8\n") and parts_of(got[3]) == [], repr(got))
     got = harness.run(["--version"])
-    harness.check("the version tells the kit", b"rattle-kit-13f logic dac8208d650f15bf" in got[1], repr(got))
+    harness.check("the version tells the logic", b"Rattle logic dac8208d650f15bf" in got[1], repr(got))
 
 
 def check_faults(harness):
@@ -116,7 +116,7 @@ def order_of_faults(harness):
 def help_texts(harness):
     """Help and version, byte for byte."""
     texts = os.path.join(HERE, "texts")
-    for name, line in (("help", ["--help"]), ("seq", ["seq", "--help"]), ("run", ["run", "--help"]), ("check", ["check", "--help"]), ("merge", ["merge", "--help"]), ("version", ["--version"])):
+    for name, line in (("help", ["--help"]), ("seq", ["seq", "--help"]), ("run", ["run", "--help"]), ("check", ["check", "--help"]), ("merge", ["merge", "--help"]), ("verify", ["verify", "--help"]), ("version", ["--version"])):
         got = harness.run(line)
         said = got[1].replace(b"Usage: %s" % os.fsencode(os.path.basename(harness.program)), b"Usage: mapred")
         with open(os.path.join(texts, name + ".txt"), "rb") as file:

@@ -202,11 +202,21 @@ def verdicts(harness):
 def shards(harness):
     """Shards that can't be merged, whatever is done with them."""
     where = harness.directory(TEXT)
-    harness.run(["seq", "--job", "index", "--out", ".", "a"], cwd=where)
-    harness.run(["check", "--job", "index", "--out", ".", "--verdict", "verdict", "a"], cwd=where)
+    harness.run(["seq", *WORDS, "a"], cwd=where)
+    harness.run(["check", *WORDS, "--verdict", "verdict", "a"], cwd=where)
     os.mkdir(os.path.join(where, "whole"))
-    hint = b"the first verdict asks for nothing that is merged: where it is of an index, run that over all files"
-    told(harness, "a shard of an index", ["merge", "--out", "whole", "verdict"], 1, err=b"mapred: NoRequest\n", hint=hint, where=where)
+    good = open(os.path.join(where, "verdict"), "rb").read()
+    harness.directory({"verdict": good.replace(b"job 1\n", b"job 9\n")}, where)
+    hint = b"the verdict asks for nothing that mapred can be asked for: judge its files again"
+    told(harness, "a verdict about no request", ["merge", "--out", "whole", "verdict"], 1, err=b"mapred: NoRequest\n", hint=hint, where=where)
+    told(harness, "a verdict about no request, tested again", ["verify", "verdict"], 1, err=b"mapred: NoRequest\n", hint=hint, where=where)
+    harness.directory({"verdict": good.replace(b"emitted ", b"emitted 1")}, where)
+    hint = b"the lines of the parts tell other pairs than the verdict: judge them again"
+    told(harness, "a verdict with other pairs", ["verify", "verdict"], 1, err=b"mapred: OtherTotal\n", hint=hint, where=where)
+    harness.directory({"verdict": good, "a": b"other\n"}, where)
+    hint = b"this isn't the input that was judged, from its range's first byte to the last: get it again, or judge again"
+    told(harness, "another input than was judged", ["verify", "--with-inputs", "verdict"], 1, err=b"mapred: OtherInput input 0\n", hint=hint, where=where)
+    harness.directory({"a": TEXT["a"]}, where)
     harness.run(["seq", *WORDS, "--from", "21", "a"], cwd=where)
     harness.run(["check", *WORDS, "--from", "21", "--verdict", "verdict", "a"], cwd=where)
     hint = b"this input begins inside its file, and the one before doesn't end there: name all shards, in order, or give --partial"

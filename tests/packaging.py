@@ -44,7 +44,7 @@ def pages(harness):
     """Each command and option that help tells stands in the man page and in the completions; a page that isn't so is told."""
     top = place(harness)
     texts = {name: open(os.path.join(top, "dist", name), encoding="utf-8").read() for name in ("mapred.1", *(f"completions/{it}" for it in ("mapred.bash", "_mapred", "mapred.fish")))}
-    for command in ("seq", "run", "check", "merge"):
+    for command in ("seq", "run", "check", "merge", "verify"):
         said = ran(top, harness.program, command, "--help").stdout
         found = [line.split()[0] for line in said.splitlines() if line.startswith("      --")]
         harness.check(f"{command} has options", "--out" in found, repr(found))

@@ -1,7 +1,7 @@
 -- The exit statuses.
 use Rattle.std.specs.Prelude.{◌≡◌, ℕ}
 use Rattle.mr_args.specs.declared.fault.Fault.{Fault}
-use Rattle.mr_args.specs.declared.fault.Fault.TheVariants.{Job, Run, Script, Shards, CannotRead, CannotWrite, SameFile, OutOfMemory}
+use Rattle.mr_args.specs.declared.fault.Fault.TheVariants.{Job, Run, Script, Shards, Verified, CannotRead, CannotWrite, SameFile, OutOfMemory}
 use Rattle.mr_files.specs.declared.store.FileFault.{FileFault}
 use Rattle.mr_files.specs.declared.store.FileFault.TheVariants as file
 use Rattle.mr_jobs.specs.declared.job.JobFault.{JobFault}
@@ -27,6 +27,8 @@ status_of_shards (shards.OtherPart shard partition) = 1
 status_of_shards (shards.BadLine shard partition line) = 1
 status_of_shards (shards.NoSuchFile shard partition) = 1
 status_of_shards (shards.OtherOutputs shard) = 1
+status_of_shards (shards.OtherTotal shard) = 1
+status_of_shards (shards.OtherInput input) = 1
 status_of_shards fault = 2
 
 -- 3 for a file, 4 for want of memory, 1 for shards that aren't those of one whole, 2 for usage or a limit
@@ -35,6 +37,7 @@ status_of (CannotRead name) = 3
 status_of (CannotWrite name) = 3
 status_of OutOfMemory = 4
 status_of (Shards fault) = status_of_shards fault
+status_of (Verified fault) = status_of_shards fault
 status_of fault = 2
 
 -- want of memory is told as itself, wherever it was met
@@ -57,6 +60,12 @@ ReportsShards (shards.CannotWrite name) told = told ≡ CannotWrite name
 ReportsShards (shards.SameFile name) told = told ≡ SameFile name
 ReportsShards shards.OutOfMemory told = told ≡ OutOfMemory
 ReportsShards fault told = told ≡ Shards fault
+
+-- so is a file that can't be read
+abbrev pub ReportsVerify : ShardFault → Fault → Type 0
+ReportsVerify (shards.CannotRead name) told = told ≡ CannotRead name
+ReportsVerify shards.OutOfMemory told = told ≡ OutOfMemory
+ReportsVerify fault told = told ≡ Verified fault
 
 -- a fault of files is told as itself
 abbrev pub ReportsFile : FileFault → Fault → Type 0

@@ -1,6 +1,6 @@
 //! Why a command fails: its fault, exit status and message.
 ghost use Rattle.std.specs.Prelude.{◌≡◌};
-ghost use Rattle.mr_args.specs.Statuses.{status_of, status_of_shards};
+ghost use Rattle.mr_args.specs.Statuses.{ReportsVerify, status_of, status_of_shards};
 
 use mr_files::FileFault;
 use mr_input::InputFault;
@@ -43,6 +43,8 @@ pub enum Fault {
     ScratchInUse,
     /// Why shards are not merged. Faults of files and want of memory have their own variants.
     Shards(ShardFault),
+    /// Why a result isn't the one in its verdict. Faults of files and want of memory likewise.
+    Verified(ShardFault),
     /// The command would write this file, and also reads it or writes it under another name before.
     SameFile(String),
     CannotRead(String),
@@ -145,12 +147,25 @@ fn shards_status(fault: &ShardFault) -> u8
         | ShardFault::OtherPart { .. }
         | ShardFault::BadLine { .. }
         | ShardFault::NoSuchFile { .. }
+        | ShardFault::OtherTotal { .. }
+        | ShardFault::OtherInput { .. }
         | ShardFault::OtherOutputs { .. } => 1,
         _ => 2,
     }
 }
 
 impl Fault {
+    /// Why `verify` fails.
+    pub fn of_verify(fault: ShardFault) -> Fault
+        ensures { ReportsVerify fault result }
+    {
+        match fault {
+            ShardFault::CannotRead(name) => Fault::CannotRead(name),
+            ShardFault::OutOfMemory => Fault::OutOfMemory,
+            other => Fault::Verified(other),
+        }
+    }
+
     /// The exit status: 1 for unfit shards, 2 for usage or a limit, 3 for a file, 4 for want of
     /// memory.
     pub fn status(&self) -> u8
@@ -159,7 +174,7 @@ impl Fault {
         match self {
             Fault::CannotRead(_) | Fault::CannotWrite(_) => 3,
             Fault::OutOfMemory => 4,
-            Fault::Shards(fault) => shards_status(fault),
+            Fault::Shards(fault) | Fault::Verified(fault) => shards_status(fault),
             _ => 2,
         }
     }
@@ -167,6 +182,21 @@ impl Fault {
 
 fn write_told<D: fmt::Display, W: fmt::Write>(f: &mut fmt::Formatter<W>, told: &D) -> fmt::Result {
     write!(f, "mapred: {told}\n")
+}
+
+/// The fault without its shard's number: `verify` has one verdict.
+fn write_verified<W: fmt::Write>(f: &mut fmt::Formatter<W>, fault: &ShardFault) -> fmt::Result {
+    match fault {
+        ShardFault::BadVerdict { line, .. } => write!(f, "mapred: BadVerdict line {line}\n"),
+        ShardFault::LongVerdict { .. } => write_told(f, &"LongVerdict"),
+        ShardFault::OldVerdict { .. } => write_told(f, &"OldVerdict"),
+        ShardFault::OtherOutputs { .. } => write_told(f, &"OtherOutputs"),
+        ShardFault::OtherPart { partition, .. } => {
+            write!(f, "mapred: OtherPart partition {partition}\n")
+        }
+        ShardFault::OtherTotal { .. } => write_told(f, &"OtherTotal"),
+        other => write_told(f, other),
+    }
 }
 
 impl fmt::Display for Fault {
@@ -192,6 +222,7 @@ impl fmt::Display for Fault {
             Fault::Script(fault) => write_told(f, fault),
             Fault::ScratchInUse => write_told(f, &"ScratchInUse"),
             Fault::Shards(fault) => write_told(f, fault),
+            Fault::Verified(fault) => write_verified(f, fault),
             Fault::SameFile(name) => write!(f, "mapred: SameFile {name}\n"),
             Fault::CannotRead(name) => write!(f, "mapred: cannot read {name}\n"),
             Fault::CannotWrite(name) => write!(f, "mapred: cannot write {name}\n"),

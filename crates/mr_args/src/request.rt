@@ -12,6 +12,7 @@ use mr_bytes::RecordName;
 use mr_certform::Version;
 use mr_jobs::{Job, Request};
 use mr_script::number_of;
+use mr_shard_files::VerifyPlan;
 use std::alloc::Global;
 
 #[derive(Clone, Copy)]
@@ -90,6 +91,7 @@ pub enum Subcommand<'a> {
     Run(RunOptions<'a>),
     Check(CheckOptions<'a>),
     Merge(MergeOptions<'a>),
+    Verify(VerifyPlan<'a>),
 }
 
 fn asks_for_other_job(options: &Options<'_>) -> bool

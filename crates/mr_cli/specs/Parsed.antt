@@ -13,8 +13,9 @@ use Rattle.mr_args.specs.declared.request.MergeOptions.{MergeOptions}
 use Rattle.mr_args.specs.declared.request.RunOptions.{RunOptions}
 use Rattle.mr_args.specs.declared.request.SeqOptions.{SeqOptions}
 use Rattle.mr_args.specs.declared.request.Subcommand.{Subcommand}
-use Rattle.mr_args.specs.declared.request.Subcommand.TheVariants.{Seq, Run, Check, Merge}
+use Rattle.mr_args.specs.declared.request.Subcommand.TheVariants.{Seq, Run, Check, Merge, Verify}
 use Rattle.mr_args.specs.Asked.{Names}
+use Rattle.mr_shard_files.specs.declared.verifying.VerifyPlan.{VerifyPlan}
 
 -- decimal digits, a plus allowed in front, whose number is below this one
 abbrev pub WritesNumber : ℕ → List ℕ → Type 0
@@ -87,9 +88,16 @@ pub record AreMergeOptionsOf (found : Found) (o : MergeOptions) : Type 0 where
   pub partial : IsFlagOf (one_text found (codes "partial")) o.partial
   pub verdicts : map (λ s. s.now) o.verdicts.items ≡ option_map_or raw_values (matched_of found (codes "verdicts")) []
 
+-- the same of a result that is tested again
+pub record IsVerifyPlanOf (found : Found) (o : VerifyPlan) : Type 0 where
+  pub verdict : o.verdict.now ≡ unwrap_or (first_value found (codes "verdict")) []
+  pub out : option_map (λ s. s.now) o.out ≡ first_value found (codes "out")
+  pub inputs : IsFlagOf (one_text found (codes "with-inputs")) o.inputs
+
 -- the subcommand is that of its own name, and its options are those of its matches
 abbrev pub IsAskedBy : Option (List ℕ) → Option (List Row) → Subcommand → Type 0
 IsAskedBy name rows (Seq o) = (name ≡ Some (codes "seq")) × ((found : Found) × (rows ≡ Some (rows_of found)) × AreSeqOptionsOf found o)
 IsAskedBy name rows (Run o) = (name ≡ Some (codes "run")) × ((found : Found) × (rows ≡ Some (rows_of found)) × AreRunOptionsOf found o)
 IsAskedBy name rows (Check o) = (name ≡ Some (codes "check")) × ((found : Found) × (rows ≡ Some (rows_of found)) × AreCheckOptionsOf found o)
 IsAskedBy name rows (Merge o) = (name ≡ Some (codes "merge")) × ((found : Found) × (rows ≡ Some (rows_of found)) × AreMergeOptionsOf found o)
+IsAskedBy name rows (Verify o) = (name ≡ Some (codes "verify")) × ((found : Found) × (rows ≡ Some (rows_of found)) × IsVerifyPlanOf found o)

@@ -203,7 +203,9 @@ pub fn verdict_hint<S: Store + Inspect>(
 ) -> Result<String, AllocError> {
     match asked {
         Subcommand::Check(asked) => check_hint(store, alloc, &asked.options, said),
-        Subcommand::Seq(_) | Subcommand::Merge(_) => Ok(String::new(alloc)),
+        Subcommand::Seq(_) | Subcommand::Merge(_) | Subcommand::Verify(_) => {
+            Ok(String::new(alloc))
+        }
         Subcommand::Run(asked) => {
             String::from_str(alloc, run_cure(said, asked.scratch.is_some()))
         }

@@ -187,7 +187,7 @@ fn shards_cure(fault: &ShardFault) -> &'static str {
         ShardFault::BadVerdict { .. } =>
             "this isn't a verdict as check --verdict writes it: judge the shard again",
         ShardFault::NoRequest =>
-            "the first verdict asks for nothing that is merged: where it is of an index, run that over all files",
+            "the verdict asks for nothing that mapred can be asked for: judge its files again",
         ShardFault::OtherRequest { .. } =>
             "all shards have the options of the first: run this one again with those, and judge it",
         ShardFault::OtherOutputs { .. } =>
@@ -206,6 +206,10 @@ fn shards_cure(fault: &ShardFault) -> &'static str {
             "this part isn't the one that was judged: judge the shard again",
         ShardFault::BadLine { .. } =>
             "the part isn't as the job writes it: run the shard again, and judge it",
+        ShardFault::OtherTotal { .. } =>
+            "the lines of the parts tell other pairs than the verdict: judge them again",
+        ShardFault::OtherInput { .. } =>
+            "this isn't the input that was judged, from its range's first byte to the last: get it again, or judge again",
         ShardFault::SameFolder { .. } =>
             "--out is the folder of that shard, whose parts are read while the result is written: name another",
         ShardFault::LongVerdict { .. } => "a verdict has at most 1 GiB",
@@ -249,7 +253,7 @@ fn remedy(fault: &Fault) -> &'static str {
             "a line is `lose W after N`, `zombie W after N`, `bad S R`, `flaky S R N`, `hold W`, `spoil P B` or `damage S P B`",
         Fault::ScratchInUse =>
             "another run keeps its regions in the directory of --scratch: name another, one for each run",
-        Fault::Shards(fault) => shards_cure(fault),
+        Fault::Shards(fault) | Fault::Verified(fault) => shards_cure(fault),
         Fault::SameFile(_) =>
             "this file is read, or written under another name, and would be lost: give another name",
         Fault::CannotRead(_) | Fault::CannotWrite(_) => "",
@@ -283,7 +287,7 @@ fn range_hint<S: Store>(
         Subcommand::Seq(asked) => &asked.options,
         Subcommand::Run(asked) => &asked.options,
         Subcommand::Check(asked) => &asked.options,
-        Subcommand::Merge(_) => return Ok(String::new(alloc)),
+        Subcommand::Merge(_) | Subcommand::Verify(_) => return Ok(String::new(alloc)),
     };
     match options.files.as_slice().get(file) {
         Some(name) => line_hint(store, alloc, name, byte),

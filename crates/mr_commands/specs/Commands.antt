@@ -1,25 +1,27 @@
 -- What is answered to each command, over the files of a store.
-use Rattle.std.specs.Prelude.{◌≡◌, ℕ, List}
+use Rattle.std.specs.Prelude.{◌≡◌, ℕ, List, []}
 use Rattle.mr_files.specs.Holding.{ChangesAmong, Faulty, Stored}
 use Rattle.mr_files.specs.Identities.{Known}
 use Rattle.mr_files.specs.Names.{result_names}
 use Rattle.mr_shard_files.specs.Merging.{ChangesResult}
 use Rattle.mr_args.specs.declared.fault.Fault.{Fault}
 use Rattle.mr_args.specs.declared.request.Subcommand.{Subcommand}
-use Rattle.mr_args.specs.declared.request.Subcommand.TheVariants.{Seq, Run, Check, Merge}
+use Rattle.mr_args.specs.declared.request.Subcommand.TheVariants.{Seq, Run, Check, Merge, Verify}
 use Rattle.mr_commands.specs.Answers.{AnswersSeq, IsSeqRefusal}
 use Rattle.mr_commands.specs.Merges.{AnswersMerge, IsMergeUnanswered}
+use Rattle.mr_commands.specs.Verifies.{AnswersVerify, IsVerifyUnanswered}
 use Rattle.mr_commands.specs.Runs.{AnswersRun, IsRunUnanswered, written_by_run}
 use Rattle.mr_commands.specs.Named.{written_by_check}
 use Rattle.mr_commands.specs.Verdicts.{KeepsVerdict, IsCheckUnanswered}
 
 -- nothing changed but what the command writes: the result, with a run's history; for `check` the verdict; for `merge` a
--- merged result, of so many parts as the verdicts tell
+-- merged result, of so many parts as the verdicts tell; `verify` writes nothing
 abbrev pub ChangesOwn : Stored → Stored → Subcommand → Type 0
 ChangesOwn old new (Seq o) = ChangesAmong old new (result_names o.options.out.now o.options.parts)
 ChangesOwn old new (Run o) = ChangesAmong old new (written_by_run o)
 ChangesOwn old new (Check o) = ChangesAmong old new (written_by_check o)
 ChangesOwn old new (Merge o) = ChangesResult old new o.out.now
+ChangesOwn old new (Verify o) = ChangesAmong old new []
 
 -- what is answered where the line was understood and no fault was met
 abbrev pub Answers : Stored → Stored → Known → Subcommand → List ℕ → ℕ → Type 0
@@ -27,6 +29,7 @@ Answers old new known (Seq o) text status = (status ≡ 0) × AnswersSeq old new
 Answers old new known (Run o) text status = AnswersRun old new known o text status
 Answers old new known (Check o) text status = KeepsVerdict old new known o text status
 Answers old new known (Merge o) text status = (status ≡ 0) × AnswersMerge old new known o text
+Answers old new known (Verify o) text status = (status ≡ 0) × AnswersVerify old o text
 
 -- why nothing is answered, and what was changed then
 abbrev pub IsRefusal : Stored → Stored → Faulty → Faulty → (List ℕ → List ℕ → Type 0) → Known → Subcommand → Fault → Type 0
@@ -34,3 +37,4 @@ IsRefusal old new unreadable unwritable alike known (Seq o) fault = IsSeqRefusal
 IsRefusal old new unreadable unwritable alike known (Run o) fault = IsRunUnanswered old new unreadable unwritable alike known o fault
 IsRefusal old new unreadable unwritable alike known (Check o) fault = IsCheckUnanswered old new unreadable unwritable known o fault
 IsRefusal old new unreadable unwritable alike known (Merge o) fault = IsMergeUnanswered old new unreadable unwritable alike known o fault
+IsRefusal old new unreadable unwritable alike known (Verify o) fault = IsVerifyUnanswered old unreadable o fault

@@ -3,6 +3,7 @@ pub mod Answers
 pub mod HistoryLines
 pub mod Runs
 pub mod Merges
+pub mod Verifies
 pub mod Commands
 pub mod NoLines
 pub mod YesLines

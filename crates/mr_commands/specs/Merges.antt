@@ -10,10 +10,10 @@ use Rattle.mr_args.specs.declared.request.MergeOptions.{MergeOptions}
 use Rattle.mr_args.specs.declared.fault.Fault.{Fault}
 use Rattle.mr_args.specs.Statuses.{ReportsShards}
 
--- what is said of merged shards
-abbrev pub merged_line : ℕ → ℕ → ℕ → List ℕ
-merged_line files pairs left_out =
-    codes "merged: " ++ (decimal files ++ (codes " files, " ++ (decimal pairs ++ (codes " pairs, " ++ (decimal left_out ++ codes " left out\n")))))
+-- what is said of a result by a word: its files, its pairs, and the records that are left out, as its verdict tells them
+abbrev pub result_line : List ℕ → Told → List ℕ
+result_line word v = word ++ (decimal (length v.outputs) ++ (codes " files, " ++ (decimal v.pairs ++ (codes " pairs, "
+    ++ (decimal (length v.left_out) ++ codes " left out\n")))))
 
 -- the names of the verdicts, in order
 abbrev pub verdict_names : MergeOptions → List (List ℕ)
@@ -28,7 +28,7 @@ list_name o = option_map (λ s. s.now) o.inputs
 pub record AnswersMerge (old new : Stored) (known : Known) (o : MergeOptions) (text : List ℕ) : Type 0 where
   pub joined : Told
   pub merged : IsMerged old new known (verdict_names o) (list_name o) o.out.now o.partial joined
-  pub said : text ≡ merged_line (length joined.outputs) joined.pairs (length joined.left_out)
+  pub said : text ≡ result_line (codes "merged: ") joined
 
 -- why `merge` doesn't answer, as the merge of these shards tells it, and what stands then
 abbrev pub IsMergeUnanswered : Stored → Stored → Faulty → Faulty → (List ℕ → List ℕ → Type 0) → Known → MergeOptions → Fault → Type 0

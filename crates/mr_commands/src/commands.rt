@@ -23,6 +23,7 @@ use crate::judging::check;
 use crate::merging::merge;
 use crate::running::{Machine, run as run_by_workers};
 use crate::texts::{CommandOutput, done_line};
+use crate::verifying::verify;
 use mr_args::{Fault, Options, SeqOptions, Subcommand, request_of, skips_of};
 use mr_bytes::{Progress, RecordName};
 use mr_certform::{Certificate, Version, VersionedCertificate, text_law};
@@ -177,5 +178,6 @@ pub fn execute<S: Store, C: Scratch, R: Threads + Wait + Sync>(
         Subcommand::Seq(asked) => seq(store, alloc, asked, watch),
         Subcommand::Run(asked) => run_by_workers(machine, store, asked, watch),
         Subcommand::Merge(asked) => merge(rt, store, alloc, asked),
+        Subcommand::Verify(asked) => verify(store, alloc, asked),
     }
 }

@@ -9,9 +9,11 @@ mod judging;
 mod merging;
 mod running;
 mod texts;
+mod verifying;
 
 pub use crate::commands::{execute, seq};
 pub use crate::judging::check;
 pub use crate::merging::merge;
 pub use crate::running::{Machine, RunOutcome, run};
 pub use crate::texts::{CommandOutput, history_text, no_line};
+pub use crate::verifying::verify;

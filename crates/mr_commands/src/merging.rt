@@ -3,21 +3,22 @@ ghost use Rattle.std.specs.Prelude.{◌≡◌, ◌+◌, ◌≤◌, ◌++◌, [],
 ghost use Rattle.std.specs.Prelude.{string_capacity, string_len};
 ghost use Rattle.mr_shard_files.specs.Merging.{ChangesResult};
 ghost use Rattle.mr_commands.specs.Merges.{AnswersMerge, IsMergeUnanswered};
-ghost use Rattle.mr_commands.specs.Merges.{merged_line as line_of_merged};
+ghost use Rattle.mr_commands.specs.Merges.{result_line as line_of_result};
 
 use crate::texts::CommandOutput;
 use itoa::Buffer;
 use mr_args::{Fault, MergeOptions};
 use mr_files::Store;
 use mr_shard_files::{MergePlan, merge_shards};
+use mr_shards::Verdict;
 use std::alloc::Global;
 use std::thread::Threads;
 
-/// The bytes of the line if each of its numbers has 20 digits.
-const LINE_ROOM: usize = 94;
+/// The most bytes of a line on a result: a word of 10 bytes, and numbers of 20 digits each.
+pub(crate) const LINE_ROOM: usize = 96;
 
 // The clauses have this number.
-const _: () = prove!(LINE_ROOM == 94);
+const _: () = prove!(LINE_ROOM == 96);
 
 /// Appends a text for which there is room, so that it needs no memory.
 fn add_within(line: &mut String, text: &str)
@@ -29,20 +30,22 @@ fn add_within(line: &mut String, text: &str)
     let _ = line.push_str(text);
 }
 
-fn merged_line(room: String, files: usize, pairs: u64, left_out: usize) -> String
+/// A word on a result, and what its verdict counts. It needs no memory but the room.
+pub(crate) fn result_line(room: String, word: &str, verdict: &Verdict) -> String
     requires empty { string_len room ≡ 0 }
     requires nothing { string_bytes room ≡ [] }
-    requires room { 94 ≤ string_capacity room }
-    ensures { string_bytes result ≡ line_of_merged files pairs left_out }
+    requires room { 96 ≤ string_capacity room }
+    requires word { length word.now ≤ 10 }
+    ensures { string_bytes result ≡ line_of_result word.now verdict.now }
 {
     let mut line = room;
     let mut digits = Buffer::new();
-    add_within(&mut line, "merged: ");
-    add_within(&mut line, digits.format(files));
+    add_within(&mut line, word);
+    add_within(&mut line, digits.format(verdict.outputs.len()));
     add_within(&mut line, " files, ");
-    add_within(&mut line, digits.format(pairs));
+    add_within(&mut line, digits.format(verdict.pairs));
     add_within(&mut line, " pairs, ");
-    add_within(&mut line, digits.format(left_out));
+    add_within(&mut line, digits.format(verdict.left_out.len()));
     add_within(&mut line, " left out\n");
     line
 }
@@ -71,11 +74,6 @@ pub fn merge<S: Store, T: Threads>(
         partial: asked.partial,
     };
     let joined = merge_shards(rt, store, alloc, &plan)?;
-    let text = merged_line(
-        room,
-        joined.outputs.len(),
-        joined.pairs,
-        joined.left_out.len(),
-    );
+    let text = result_line(room, "merged: ", &joined);
     Ok(CommandOutput { text, status: 0 })
 }

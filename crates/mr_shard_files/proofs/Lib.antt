@@ -16,3 +16,5 @@ pub mod SettleLemmas
 pub mod RestLemmas
 pub mod ResultLemmas
 pub mod SharingLemmas
+pub mod PairLemmas
+pub mod VerifyLemmas

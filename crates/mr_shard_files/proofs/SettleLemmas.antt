@@ -84,7 +84,7 @@ module _ {R : Type 0} (remaining : R → Option (List ℕ)) (can_fail : R → Ty
     AreStreams _ _ _ _ = ⊥
 
     -- a part that moved on is still that part
-    moved_on : (n : List ℕ) (v : Told) (x y : List ℕ) (o m : Part R) → Stream n v x o → Moves remaining can_fail y o m → Stream n v (x ++ y) m
+    pub moved_on : (n : List ℕ) (v : Told) (x y : List ℕ) (o m : Part R) → Stream n v x o → Moves remaining can_fail y o m → Stream n v (x ++ y) m
     moved_on n v x y o m s k = record {
       folder = s.folder;
       is_folder = s.is_folder;
@@ -151,7 +151,7 @@ module _ {R : Type 0} (remaining : R → Option (List ℕ)) (can_fail : R → Ty
       pub text_is : reading.output.text.now ≡ text
       pub may : MayBe f x q reading
 
-    whole : (f : ShardFiles) (n : List ℕ) (v : Told) (x : List ℕ) (q m : Part R) → Stream n v x q → IsSettled remaining can_fail p v q m → Whole f n v x q
+    pub whole : (f : ShardFiles) (n : List ℕ) (v : Told) (x : List ℕ) (q m : Part R) → Stream n v x q → IsSettled remaining can_fail p v q m → Whole f n v x q
     whole f n v x q m s k =
         let got = k.moves.got in
         let text : List ℕ = x ++ (q.held ++ got) in
@@ -205,7 +205,7 @@ module _ {R : Type 0} (remaining : R → Option (List ℕ)) (can_fail : R → Ty
 
     -- ---- a part that is another, or can't be read
 
-    other_part : (n : List ℕ) (v : Told) (x : List ℕ) (q : Part R) → Stream n v x q → IsOther remaining can_fail p v q → (text : List ℕ) × StandsBeside holds p n text × (ReportsCause p v text → ⊥)
+    pub other_part : (n : List ℕ) (v : Told) (x : List ℕ) (q : Part R) → Stream n v x q → IsOther remaining can_fail p v q → (text : List ℕ) × StandsBeside holds p n text × (ReportsCause p v text → ⊥)
     other_part n v x q s k =
         let got = k.moves.got in
         let rest = left_known (remaining k.new.reader) in
@@ -223,7 +223,7 @@ module _ {R : Type 0} (remaining : R → Option (List ℕ)) (can_fail : R → Ty
         )
 
     -- why a part can't be read is why it stands so in the store
-    unread_part : (n : List ℕ) (v : Told) (x : List ℕ) (q : Part R) (i : ℕ) (e : ShardFault) → Stream n v x q → ReportsUnread (can_fail q.reader) (string_bytes q.name) e → IsPartFault holds unreadable p i n v e
+    pub unread_part : (n : List ℕ) (v : Told) (x : List ℕ) (q : Part R) (i : ℕ) (e : ShardFault) → Stream n v x q → ReportsUnread (can_fail q.reader) (string_bytes q.name) e → IsPartFault holds unreadable p i n v e
     unread_part n v x q i (CannotRead told) s t = (s.folder, s.is_folder, t.1 ∙ s.named, subst unreadable (sym (t.1 ∙ s.named)) (s.fails t.0))
     unread_part n v x q i OutOfMemory s t = tt
     unread_part n v x q i e s t = absurd t

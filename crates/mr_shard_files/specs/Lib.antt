@@ -7,3 +7,4 @@ pub mod Streams
 pub mod Made
 pub mod Apart
 pub mod Sharing
+pub mod Verified

@@ -2,6 +2,8 @@
 use Rattle.std.specs.Prelude.{ℕ}
 use Rattle.mr_files.specs.declared.store.FileFault.{FileFault}
 use Rattle.mr_files.specs.declared.store.FileFault.TheVariants as file
+use Rattle.mr_files.specs.declared.ranges.RangeFault.{RangeFault}
+use Rattle.mr_files.specs.declared.ranges.RangeFault.TheVariants as range
 use Rattle.mr_shards.specs.declared.merger.MergeFault.{MergeFault}
 use Rattle.mr_shards.specs.declared.merger.MergeFault.TheVariants as merge
 use Rattle.mr_shards.specs.declared.ranges.Gap.{Gap}
@@ -11,7 +13,7 @@ use Rattle.mr_shards.specs.declared.verdict.VerdictFault.TheVariants as text
 use Rattle.mr_shards.specs.declared.joining.JoinFault.{JoinFault}
 use Rattle.mr_shards.specs.declared.joining.JoinFault.TheVariants as join
 use Rattle.mr_shard_files.specs.declared.fault.ShardFault.{ShardFault}
-use Rattle.mr_shard_files.specs.declared.fault.ShardFault.TheVariants.{BadLine, BadVerdict, CannotRead, CannotWrite, FarPlace, NoBeginning, NoEnd, NoSuchFile, OldVerdict, OtherRequest, OutOfMemory, PlaceTooFar, TooManyFiles, TooManyPairs, TotalTooLarge}
+use Rattle.mr_shard_files.specs.declared.fault.ShardFault.TheVariants.{BadLine, BadVerdict, CannotRead, CannotWrite, FarPlace, NoBeginning, NoEnd, NoSuchFile, OldVerdict, OtherInput, OtherRequest, OutOfMemory, PlaceTooFar, TooManyFiles, TooManyPairs, TotalTooLarge}
 
 abbrev pub told_of_file : FileFault → ShardFault
 told_of_file (file.CannotRead name) = CannotRead name
@@ -34,6 +36,11 @@ abbrev pub told_of_verdict : ℕ → VerdictFault → ShardFault
 told_of_verdict shard (text.BadLine line) = BadVerdict shard line
 told_of_verdict shard text.OldVerdict = OldVerdict shard
 told_of_verdict shard text.OutOfMemory = OutOfMemory
+
+-- of a range of an input
+abbrev pub told_of_range : ℕ → RangeFault → ShardFault
+told_of_range input (range.File fault) = told_of_file fault
+told_of_range input fault = OtherInput input
 
 -- of the outputs that shards have for a partition
 abbrev pub told_of_merge : ℕ → MergeFault → ShardFault

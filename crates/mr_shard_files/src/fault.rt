@@ -1,8 +1,8 @@
 //! Why shards are not merged.
 ghost use Rattle.std.specs.Prelude.{◌≡◌};
-ghost use Rattle.mr_shard_files.specs.Told.{told_of_merge, told_of_verdict};
+ghost use Rattle.mr_shard_files.specs.Told.{told_of_merge, told_of_range, told_of_verdict};
 
-use mr_files::FileFault;
+use mr_files::{FileFault, RangeFault};
 use mr_shards::{JoinFault, MergeFault, VerdictFault};
 use std::alloc::AllocError;
 use thiserror::Error;
@@ -29,7 +29,7 @@ pub enum ShardFault {
     OldVerdict {
         shard: usize,
     },
-    /// The first verdict is about no request, or about one of an index, which can't be merged.
+    /// The first verdict is about no request.
     #[error("NoRequest")]
     NoRequest,
     /// The verdict is about another request than the first.
@@ -115,6 +115,16 @@ pub enum ShardFault {
     PlaceTooFar {
         partition: usize,
     },
+    /// The pairs that the lines of the shard's parts state are not those in its verdict.
+    #[error("OtherTotal shard {shard}")]
+    OtherTotal {
+        shard: usize,
+    },
+    /// The range of the input is not the one in the verdict.
+    #[error("OtherInput input {input}")]
+    OtherInput {
+        input: usize,
+    },
     #[error("cannot read {0}")]
     CannotRead(String),
     #[error("cannot write {0}")]
@@ -169,6 +179,15 @@ pub(crate) fn of_verdict(shard: usize, fault: VerdictFault) -> ShardFault
         VerdictFault::BadLine { line } => ShardFault::BadVerdict { shard, line },
         VerdictFault::OldVerdict => ShardFault::OldVerdict { shard },
         VerdictFault::OutOfMemory => ShardFault::OutOfMemory,
+    }
+}
+
+pub(crate) fn of_range(input: usize, fault: RangeFault) -> ShardFault
+    ensures { result ≡ told_of_range input fault }
+{
+    match fault {
+        RangeFault::File(fault) => ShardFault::from(fault),
+        _ => ShardFault::OtherInput { input },
     }
 }
 

@@ -5,13 +5,16 @@
 mod fault;
 mod listing;
 mod merging;
+mod pairs;
 mod partition;
 mod sharing;
 mod stream;
 mod streams;
 mod tails;
 mod turns;
+mod verifying;
 
 pub use crate::fault::ShardFault;
 pub use crate::merging::{MergePlan, merge_shards};
 pub use crate::partition::part_notes;
+pub use crate::verifying::{VerifyPlan, verify_result};

@@ -178,7 +178,8 @@ pub const MAX_TEXT_BYTES: u64 = 1_073_741_824;
 // The clauses have this number.
 const _: () = prove!(MAX_TEXT_BYTES == 1_073_741_824);
 
-fn verdict_under<S: Store>(
+/// The verdict of that name, of the shard of that number.
+pub(crate) fn verdict_under<S: Store>(
     store: &S,
     alloc: Global,
     name: &str,

@@ -34,7 +34,7 @@ use mr_store::ReadFault;
 use std::alloc::{AllocError, Global};
 use std::thread::Threads;
 
-/// The first verdict's request, of a job whose outputs can be merged.
+/// The first verdict's request.
 fn first_request(alloc: Global, verdicts: &[Verdict]) -> Result<Request, ShardFault>
     ensures ok { IfOk result (λ r. Asks (verdict_at verdicts.now 0) r) }
     ensures some { IfOk result (λ _. 0 < length verdicts.now) }
@@ -261,7 +261,7 @@ fn length_in(verdict: &Verdict, partition: usize) -> u64
     }
 }
 
-fn open_part<S: Store>(
+pub(crate) fn open_part<S: Store>(
     store: &S,
     alloc: Global,
     name: &str,

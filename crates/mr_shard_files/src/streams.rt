@@ -102,7 +102,8 @@ fn has_note<R: CountedRead + Drop>(
     }
 }
 
-fn settle<R: CountedRead + Drop>(
+/// Reads the part to its end, and returns whether it is the one in the verdict.
+pub(crate) fn settle<R: CountedRead + Drop>(
     alloc: Global,
     part: &mut Part<R>,
     verdict: &Verdict,

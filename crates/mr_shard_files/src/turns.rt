@@ -24,7 +24,7 @@ use std::thread;
 use std::thread::Threads;
 
 /// How many bytes of each part a turn holds: 256 KiB.
-const WINDOW: usize = 262_144;
+pub(crate) const WINDOW: usize = 262_144;
 
 #[derive(Drop)]
 pub(crate) enum Stop {

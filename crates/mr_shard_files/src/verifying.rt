@@ -1,0 +1,266 @@
+//! Tests a result against its verdict: reads its parts again, and if asked the ranges of its input.
+//!
+//!     part   [ counted, passed | whole lines, counted next | waits for its line end | not read ]
+//!
+//! A part is read in windows. Their whole lines are counted and pass; the digest has all of it.
+//! Cost: linear; memory for a window of 256 KiB, for a line that is longer, and for one range of
+//! the input.
+ghost use Rattle.std.specs.Prelude.{◌≡◌, ◌⊎◌, ℕ, ◌++◌, [], ◌∷◌, IfErr, IfOk, List, OnOk, Some};
+ghost use Rattle.std.specs.Prelude.{length, option_map, string_bytes, true};
+ghost use Rattle.std.specs.List.{AllByRecursion};
+ghost use Rattle.mr_shards.specs.Truth.{Asks};
+ghost use Rattle.mr_shard_files.specs.declared.fault.ShardFault.TheVariants.{OtherTotal as other_total};
+ghost use Rattle.mr_shard_files.specs.declared.fault.ShardFault.TheVariants.{OutOfMemory as no_memory};
+ghost use Rattle.mr_shard_files.specs.Faults.{IsPartFault};
+ghost use Rattle.mr_shard_files.specs.Streams.{Moves, ReportsUnread, is_done as no_more};
+ghost use Rattle.mr_shard_files.specs.Verified.{AreNoted, IsAboutNone, IsFirstOther, IsFirstRange};
+ghost use Rattle.mr_shard_files.specs.Verified.{IsNotedPart, IsRangeFault, IsTotalOf, IsTrueBeside};
+ghost use Rattle.mr_shard_files.specs.Verified.{IsUntrue, IsUnverified, IsVerified, StandsInFile};
+ghost use Rattle.mr_shard_files.specs.Verified.{TotalFits, beside_name};
+
+use crate::fault::{ShardFault, of_range};
+use crate::listing::verdict_under;
+use crate::merging::open_part;
+use crate::pairs::{pairs_in, sum_of, whole_lines};
+use crate::stream::Part;
+use crate::streams::settle;
+use crate::turns::WINDOW;
+use mr_files::{Store, read_range_within, verdict_name};
+use mr_jobs::{Job, Request};
+use mr_shards::{FileRange, Verdict, request_of};
+use mr_store::CountedRead;
+use sha2::{Digest, Sha256};
+use std::alloc::Global;
+use std::str;
+
+/// What is tested.
+#[derive(Clone, Copy)]
+pub struct VerifyPlan<'a> {
+    /// The verdict's name.
+    pub verdict: &'a str,
+    /// The folder of the parts, if it isn't the verdict's.
+    pub out: Option<&'a str>,
+    /// Whether the ranges of the input are read too.
+    pub inputs: bool,
+}
+
+/// Reads a part to its end, or past its verdict's length, and counts the pairs that its lines state;
+/// none if they state no number that fits, or the last line is open.
+fn count_part<R: CountedRead + Drop>(
+    alloc: Global,
+    job: &Job,
+    part: &mut Part<R>,
+) -> Result<Option<u64>, ShardFault>
+    ensures ok { IfOk result (λ total. (passed : List ℕ)
+        × Moves R.remaining R.can_fail passed part.old part.new
+        × IsTotalOf job.now ((passed ++ part.new.held) ∷ []) total) }
+    ensures done { OnOk result (no_more part.new ≡ true) }
+    ensures err { IfErr result (ReportsUnread (R.can_fail part.old.reader) (string_bytes part.old.name)) }
+{
+    let mut total = Some(0);
+    for _ in 0..u64::MAX {
+        part.fill(alloc, WINDOW)?;
+        let lines = whole_lines(part.bytes());
+        total = sum_of(total, pairs_in(job, &part.bytes()[..lines]));
+        if part.is_done() {
+            if lines < part.bytes().len() {
+                return Ok(None);
+            }
+            return Ok(total);
+        }
+        part.pass(lines);
+    }
+    // No machine has the time for what more windows than 64 bits count would hold.
+    Err(ShardFault::OutOfMemory)
+}
+
+/// The pairs that a part's lines state, if it is the one in the verdict.
+fn test_part<S: Store>(
+    store: &S,
+    alloc: Global,
+    job: &Job,
+    beside: &str,
+    verdict: &Verdict,
+    partition: usize,
+) -> Result<Option<u64>, ShardFault>
+    ensures ok { IfOk result
+        (IsNotedPart (S.holds store.now) job.now beside.now verdict.now partition) }
+    ensures err { IfErr result
+        (IsPartFault (S.holds store.now) (S.unreadable store.now) partition 0 beside.now verdict.now) }
+{
+    let mut part = open_part(store, alloc, beside, verdict, partition)?;
+    let total = count_part(alloc, job, &mut part)?;
+    if settle(alloc, &mut part, verdict, partition)? {
+        Ok(total)
+    } else {
+        let shard = 0;
+        Err(ShardFault::OtherPart { shard, partition })
+    }
+}
+
+/// The pairs that all parts' lines state, if they are those in the verdict.
+fn test_parts<S: Store>(
+    store: &S,
+    alloc: Global,
+    job: &Job,
+    beside: &str,
+    verdict: &Verdict,
+) -> Result<Option<u64>, ShardFault>
+    ensures ok { IfOk result (λ total. (texts : List (List ℕ))
+        × (length texts ≡ length verdict.now.outputs)
+        × AreNoted (S.holds store.now) beside.now verdict.now 0 texts
+        × IsTotalOf job.now texts total) }
+    ensures err { IfErr result
+        (IsFirstOther (S.holds store.now) (S.unreadable store.now) beside.now verdict.now) }
+{
+    let mut total = Some(0);
+    for partition in 0..verdict.outputs.len() {
+        let pairs = test_part(store, alloc, job, beside, verdict, partition)?;
+        total = sum_of(total, pairs);
+    }
+    Ok(total)
+}
+
+/// The range's bytes are those of its note.
+fn test_range<S: Store>(
+    store: &S,
+    alloc: Global,
+    range: &FileRange,
+    input: usize,
+) -> Result<(), ShardFault>
+    ensures ok { OnOk result (StandsInFile (S.holds store.now) range.now) }
+    ensures err { IfErr result
+        (IsRangeFault (S.holds store.now) (S.unreadable store.now) input range.now) }
+{
+    let Ok(name) = str::from_utf8(range.name.as_slice()) else {
+        return Err(ShardFault::OtherInput { input });
+    };
+    let Some(end) = range.from.checked_add(range.length) else {
+        return Err(ShardFault::OtherInput { input });
+    };
+    match read_range_within(store, alloc, name, range.from, Some(end), range.length) {
+        Ok((bytes, _)) => {
+            let digest = Sha256::digest(bytes.as_slice());
+            if digest.as_slice() == range.digest.as_slice() {
+                Ok(())
+            } else {
+                Err(ShardFault::OtherInput { input })
+            }
+        }
+        Err(fault) => Err(of_range(input, fault)),
+    }
+}
+
+fn test_ranges<S: Store>(store: &S, alloc: Global, ranges: &[FileRange]) -> Result<(), ShardFault>
+    ensures ok { OnOk result (AllByRecursion (StandsInFile (S.holds store.now)) ranges.now) }
+    ensures err { IfErr result
+        (IsFirstRange (S.holds store.now) (S.unreadable store.now) ranges.now) }
+{
+    for input in 0..ranges.len() {
+        test_range(store, alloc, &ranges[input], input)?;
+    }
+    Ok(())
+}
+
+/// The verdict's request. There is an output for each of its partitions.
+fn request_for(alloc: Global, verdict: &Verdict) -> Result<Request, ShardFault>
+    ensures asks { IfOk result (λ r. Asks verdict.now r) }
+    ensures outputs { IfOk result (λ r. length verdict.now.outputs ≡ r.parts) }
+    ensures err { IfErr result (IsAboutNone verdict.now) }
+{
+    let Some(request) = request_of(alloc, verdict)? else {
+        return Err(ShardFault::NoRequest);
+    };
+    if verdict.outputs.len() != request.parts() as usize {
+        return Err(ShardFault::OtherOutputs { shard: 0 });
+    }
+    Ok(request)
+}
+
+fn expect_pairs(total: Option<u64>, pairs: u64) -> Result<(), ShardFault>
+    ensures ok { OnOk result (total ≡ Some pairs) }
+    ensures err { IfErr result (λ e. (e ≡ other_total 0) × (total ≡ Some pairs → ⊥)) }
+{
+    if total == Some(pairs) {
+        Ok(())
+    } else {
+        Err(ShardFault::OtherTotal { shard: 0 })
+    }
+}
+
+/// So many pairs are what the lines state; those of an index state none.
+fn test_total(job: &Job, total: Option<u64>, pairs: u64) -> Result<(), ShardFault>
+    ensures ok { OnOk result ((texts : List (List ℕ)) → IsTotalOf job.now texts total
+        → TotalFits job.now texts pairs) }
+    ensures err { IfErr result (λ e. (e ≡ other_total 0) × ((texts : List (List ℕ))
+        → IsTotalOf job.now texts total → TotalFits job.now texts pairs → ⊥)) }
+{
+    if job.counts() {
+        return expect_pairs(total, pairs);
+    }
+    if job.has_lines() {
+        return expect_pairs(total, pairs);
+    }
+    Ok(())
+}
+
+/// The files are those of the verdict.
+fn test_verdict<S: Store>(
+    store: &S,
+    alloc: Global,
+    verdict: &Verdict,
+    beside: &str,
+    inputs: bool,
+) -> Result<(), ShardFault>
+    ensures ok { OnOk result (IsTrueBeside (S.holds store.now) beside.now inputs verdict.now) }
+    ensures err { IfErr result
+        (IsUntrue (S.holds store.now) (S.unreadable store.now) beside.now inputs verdict.now) }
+{
+    let request = request_for(alloc, verdict)?;
+    let job = request.job();
+    let total = test_parts(store, alloc, job, beside, verdict)?;
+    test_total(job, total, verdict.pairs)?;
+    if inputs {
+        test_ranges(store, alloc, verdict.inputs.as_slice())
+    } else {
+        Ok(())
+    }
+}
+
+/// The same for the files of the plan.
+fn test_plan<S: Store>(
+    store: &S,
+    alloc: Global,
+    plan: &VerifyPlan<'_>,
+    verdict: &Verdict,
+) -> Result<(), ShardFault>
+    ensures ok { OnOk result (IsTrueBeside (S.holds store.now) (beside_name plan.now.verdict.now
+        (option_map (λ n. n.now) plan.now.out)) plan.now.inputs verdict.now) }
+    ensures err { IfErr result (λ e. (e ≡ no_memory) ⊎ IsUntrue (S.holds store.now)
+        (S.unreadable store.now) (beside_name plan.now.verdict.now
+        (option_map (λ n. n.now) plan.now.out)) plan.now.inputs verdict.now e) }
+{
+    let Some(dir) = plan.out else {
+        return test_verdict(store, alloc, verdict, plan.verdict, plan.inputs);
+    };
+    let beside = verdict_name(alloc, dir)?;
+    test_verdict(store, alloc, verdict, beside.as_str(), plan.inputs)
+}
+
+/// Tests a result against its verdict, which it returns. Each part has the length and the digest
+/// in the verdict, and their lines state its pairs; of an index they state none. If asked, each
+/// range of the input has them too. Faults name shard 0.
+pub fn verify_result<S: Store>(
+    store: &S,
+    alloc: Global,
+    plan: &VerifyPlan<'_>,
+) -> Result<Verdict, ShardFault>
+    ensures ok { IfOk result (IsVerified (S.holds store.now) plan.now.verdict.now
+        (option_map (λ n. n.now) plan.now.out) plan.now.inputs) }
+    ensures refused { IfErr result (IsUnverified (S.holds store.now) (S.unreadable store.now)
+        plan.now.verdict.now (option_map (λ n. n.now) plan.now.out) plan.now.inputs) }
+{
+    let verdict = verdict_under(store, alloc, plan.verdict, 0)?;
+    test_plan(store, alloc, plan, &verdict)?;
+    Ok(verdict)
+}
