@@ -1,15 +1,14 @@
 """Shards that were judged apart, merged: parts byte for byte those of one execution over all files, whose verdict names all
-inputs; each refusal with its text, and what it leaves; merges of merges; and the runner of engines/."""
+inputs; each refusal with its text, and what it leaves; and merges of merges."""
 import hashlib
 import os
 import resource
 import shutil
 import subprocess
-import sys
 
 from failing import shim, with_failing
-from harness import TOP, parts_of, seeded
-from plain import Request, named_records, produced
+from harness import parts_of, seeded
+from plain import JOBS, Request, named_records, produced
 from producer import options_of, random_job
 from verdicts import contents, verdict_text
 
@@ -17,8 +16,6 @@ ONE = {"a": b"The cat saw the dog.\nThe dog saw nothing.\n"}
 TWO = {"b": b"a cat\n\nthe end\n"}
 THREE = {"c": TWO["b"]}
 WORDS, THREE_PARTS = Request("words", 2, 16), Request("words", 3, 16)
-# The jobs whose shards are merged.
-MERGED = ("words", "grep", "url")
 
 
 def cuts(rnd, count):
@@ -73,7 +70,7 @@ def random_jobs(harness):
     rnd = seeded("merge")
     seen = set()
     for turn in range(500):
-        request, files, skips = random_job(rnd, MERGED)
+        request, files, skips = random_job(rnd)
         request.split = rnd.choice([3, 16, 100, 67108864])
         names = [name for name, *_ in named_records(files, request.split)]
         skips = sorted(rnd.sample(names, min(len(names), rnd.choice([0, 0, 1, 4]))))
@@ -88,14 +85,14 @@ def random_jobs(harness):
         harness.check(f"{turn} {request} in {len(shards)}", got == (0, said(outputs, pairs, skips), b""), repr(got))
         harness.check(f"{turn} {request} in {len(shards)}, files", contents(where) == result(outputs, verdict), repr((contents(where), outputs)))
         seen.add((request.job, len(shards)))
-    harness.check("each job was cut into 1 to 5 shards", seen == {(job, n) for job in MERGED for n in range(1, 6)}, repr(sorted(seen)))
+    harness.check("each job was cut into 1 to 5 shards", seen == {(job, n) for job in JOBS for n in range(1, 6)}, repr(sorted(seen)))
 
 
 def by_seq(harness):
     """The same against the program's own execution over all files, which is judged; and a merge of merges."""
     rnd = seeded("merge by seq")
     for turn in range(20):
-        request, files, _ = random_job(rnd, MERGED)
+        request, files, _ = random_job(rnd)
         files = (files + [b"the a 42\n", b"", b"a -", b"42 the\n"])[:4]
         request.most = 0
         names = [f"f{i}" for i in range(len(files))]
@@ -514,70 +511,4 @@ def failing_calls(harness):
         harness.check(f"a merge comes to some {kind}", number > 1)
 
 
-# A program that is killed, or kills who started it, at its first attempt at a name, and then is mapred.
-LOSING = """#!/bin/sh
-for last; do :; done
-if [ "$1" = seq ] && mkdir "{room}/{name}" 2>/dev/null; then kill -9 {whom}; fi
-exec {program} "$@"
-"""
-
-
-def losing(harness, name, whom):
-    """Such a program, and the directory that tells what was lost."""
-    room = harness.directory()
-    path = os.path.join(harness.directory(), "losing")
-    with open(path, "w") as file:
-        file.write(LOSING.format(room=room, name=name, whom=whom, program=harness.program))
-    os.chmod(path, 0o755)
-    return path, room
-
-
-def by_runner(words, where):
-    """One run of the runner."""
-    ran = subprocess.run([sys.executable, os.path.join(TOP, "engines", "shards.py"), *words], cwd=where, capture_output=True)
-    return ran.returncode, ran.stdout, ran.stderr
-
-
-def runner(harness):
-    """The runner of engines/: the result of one execution, also where each shard is lost once, and what is done again."""
-    rnd = seeded("runner")
-    given = {f"f{i}": b"".join(rnd.choice([b"the ", b"cat ", b"a\n"]) for _ in range(300)) for i in range(7)}
-    job = ["--job", "words", "--parts", "3", "--out"]
-    whole = harness.run(["seq", *job, ".", *given], given)[3]
-    once, room = losing(harness, "$last", "$$")
-    for name, program in (("by processes", harness.program), ("each shard lost once", once)):
-        where = harness.directory(given)
-        words = ["--program", program, "--progress", *job, "out", "--shard-size", "2K", *given]
-        first, second = by_runner(words, where), by_runner(words, where)
-        harness.check(name, first[0] == 0 and parts_of(os.path.join(where, "out")) == parts_of(whole), repr(first))
-        harness.check(f"{name}, once more", second[:2] == first[:2] and b"0 to do" in second[2], repr(second))
-    harness.check("shards were lost", len(os.listdir(room)) > 1 and b"again" in first[2], repr(first))
-    given["f3"] += b"another\n"
-    harness.directory({"f3": given["f3"]}, where)
-    now = harness.run(["seq", *job, ".", *given], given)[3]
-    third = by_runner(words, where)
-    harness.check("a shard whose file changed is done anew", third[0] == 0 and b"1 to do" in third[2] and parts_of(os.path.join(where, "out")) == parts_of(now), repr(third))
-    dask(harness, words, where, now)
-    got = by_runner(["--program", harness.program, "--job", "grep", "--out", "other", *given], where)
-    harness.check("a fault of the options is told, once", got[0] == 1 and got[2].count(b"EmptyLiteral") == 1, repr(got))
-    many = {f"g{i:03}": b"the %d\n" % (i % 7) for i in range(150)}
-    where = harness.directory(many)
-    got = by_runner(["--program", harness.program, *job, "out", "--shard-size", "8", *many], where)
-    whole = harness.run(["seq", *job, ".", *many], many)[3]
-    harness.check("many shards, merged in turn", got[0] == 0 and parts_of(os.path.join(where, "out")) == parts_of(whole), repr(got))
-
-
-def dask(harness, words, where, whole):
-    """The same by Dask, of which a worker is killed in the middle."""
-    has = lambda python: subprocess.run([python, "-c", "import distributed"], capture_output=True).returncode == 0
-    python = next((python for python in (sys.executable, "/usr/bin/python3") if os.path.exists(python) and has(python)), None)
-    if python is None:
-        print("shards by a runner: Dask isn't installed, so nothing of it was checked", flush=True)
-        return
-    shutil.rmtree(os.path.join(where, "out"))
-    program, room = losing(harness, "worker", "$PPID")
-    ran = subprocess.run([python, os.path.join(TOP, "engines", "shards.py"), *words, "--program", program, "--dask", "--processes", "2"], cwd=where, capture_output=True)
-    harness.check("by Dask, a worker killed", ran.returncode == 0 and os.listdir(room) == ["worker"] and parts_of(os.path.join(where, "out")) == parts_of(whole), repr(ran))
-
-
-GROUPS = {"shards merged": random_jobs, "misspelled verdicts of shards": bad_texts, "shards and one execution": by_seq, "shards refused": refusals, "shards in files": files, "the first fault of shards": first_faults, "files that a merge reads and would write": same_files, "failing calls of a merge": failing_calls, "shards' inputs": lists, "shards in little memory": little_memory, "equal lines of shards": equal_lines, "keys that fall in shards": falling_keys, "long lines of shards": long_lines, "shards by a runner": runner}
+GROUPS = {"shards merged": random_jobs, "misspelled verdicts of shards": bad_texts, "shards and one execution": by_seq, "shards refused": refusals, "shards in files": files, "the first fault of shards": first_faults, "files that a merge reads and would write": same_files, "failing calls of a merge": failing_calls, "shards' inputs": lists, "shards in little memory": little_memory, "equal lines of shards": equal_lines, "keys that fall in shards": falling_keys, "long lines of shards": long_lines}

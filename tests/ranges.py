@@ -1,7 +1,7 @@
 """Ranges of files as shards: random files cut at line ends, each shard executed, judged and merged, also by merges of merges, against
 one execution over the whole files; each refusal by its text; and verdicts of version 1."""
 from harness import parts_of, read_result, seeded
-from merge import MERGED, listing, merged, said
+from merge import listing, merged, said
 from plain import Request, named_records, produced
 from producer import options_of, random_job
 from verdicts import contents, note, range_note, spots_of, told_verdict
@@ -76,7 +76,7 @@ def random_ranges(harness):
     rnd = seeded("ranges")
     seen = set()
     for turn in range(2000):
-        request, files, _ = random_job(rnd, MERGED)
+        request, files, _ = random_job(rnd)
         request.split = rnd.choice([3, 16, 100, 67108864])
         request.most = 4
         shards = stretches(files, borders_in(rnd, files))
@@ -96,7 +96,7 @@ def random_ranges(harness):
         harness.check(f"{turn} {request} {shards}", answer == (0, said(outputs, pairs, names), b""), repr(answer))
         harness.check(f"{turn} {request} {shards}, files", contents(where) == want, repr((contents(where), want)))
         seen.add((request.job, bool(names), any(low > 0 for ranges in shards for _, low, _ in ranges)))
-    harness.check("each job was cut inside a file, with and without left-out records", len(seen) == 12, repr(sorted(seen)))
+    harness.check("each job was cut inside a file, with and without left-out records", len(seen) == 16, repr(sorted(seen)))
 
 
 def left_out_of(request, files, shards, lists):

@@ -16,6 +16,8 @@ sha256sum a.txt b.txt > inputs
 cat both/part-00001
 # cat	1
 # dog	2
+./mapred verify both/verdict
+# verified: 2 files, 9 pairs, 0 left out
 
 engines/shards.py --out all --job words --parts 2 a.txt b.txt
 # merged: 2 files, 9 pairs, 0 left out
