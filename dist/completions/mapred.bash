@@ -3,7 +3,7 @@ _mapred() {
     local word=${COMP_WORDS[COMP_CWORD]} before=${COMP_WORDS[COMP_CWORD - 1]}
     COMPREPLY=()
     if [ "$COMP_CWORD" = 1 ]; then
-        mapfile -t COMPREPLY < <(compgen -W 'seq run check merge help --help --version' -- "$word")
+        mapfile -t COMPREPLY < <(compgen -W 'seq run check merge verify help --help --version' -- "$word")
         return
     fi
     case "${COMP_WORDS[1]} $before" in
@@ -43,12 +43,14 @@ _mapred() {
     'check --verdict') mapfile -t COMPREPLY < <(compgen -f -- "$word") && return ;;
     'merge --out') mapfile -t COMPREPLY < <(compgen -d -- "$word") && return ;;
     'merge --inputs') mapfile -t COMPREPLY < <(compgen -f -- "$word") && return ;;
+    'verify --out') mapfile -t COMPREPLY < <(compgen -d -- "$word") && return ;;
     esac
     case "${COMP_WORDS[1]} $word" in
     'seq -'*) mapfile -t COMPREPLY < <(compgen -W '--job --keep-case --literal --fold --by-host --parts --split --max-skips --from --to --out --skips --cert --help' -- "$word") ;;
     'run -'*) mapfile -t COMPREPLY < <(compgen -W '--job --keep-case --literal --fold --by-host --parts --split --max-skips --from --to --out --workers --attempts --script --history --scratch --cert --help' -- "$word") ;;
     'check -'*) mapfile -t COMPREPLY < <(compgen -W '--job --keep-case --literal --fold --by-host --parts --split --max-skips --from --to --out --threads --verdict --help' -- "$word") ;;
     'merge -'*) mapfile -t COMPREPLY < <(compgen -W '--out --inputs --partial --help' -- "$word") ;;
+    'verify -'*) mapfile -t COMPREPLY < <(compgen -W '--out --with-inputs --help' -- "$word") ;;
     *) mapfile -t COMPREPLY < <(compgen -f -- "$word") ;;
     esac
 }

@@ -4,6 +4,7 @@ complete -c mapred -n __fish_use_subcommand -a seq -d 'Runs a job over files, on
 complete -c mapred -n __fish_use_subcommand -a run -d 'Runs a job by workers, each a thread, judges the result, and writes it only where the judge says yes'
 complete -c mapred -n __fish_use_subcommand -a check -d 'Judges a result: reads files, output files and certificate, and trusts no one who made them'
 complete -c mapred -n __fish_use_subcommand -a merge -d 'Merges the results of shards, each judged by itself, to the one result of all their files'
+complete -c mapred -n __fish_use_subcommand -a verify -d 'Tests a result against its verdict again: the lengths and the SHA-256 of its files, and its pairs'
 complete -c mapred -n '__fish_seen_subcommand_from seq' -F
 complete -c mapred -n '__fish_seen_subcommand_from seq' -l job -x -a 'words grep url index' -d 'words: count words; grep: find lines; url: count what a log'\''s lines request; index: tell the files of each word'
 complete -c mapred -n '__fish_seen_subcommand_from seq' -l keep-case -d 'words, index: take Word and word apart'
@@ -58,3 +59,7 @@ complete -c mapred -n '__fish_seen_subcommand_from merge' -l out -x -a '(__fish_
 complete -c mapred -n '__fish_seen_subcommand_from merge' -l inputs -r -F -d 'the inputs that are meant, in order, as sha256sum tells them [default: any]'
 complete -c mapred -n '__fish_seen_subcommand_from merge' -l partial -d 'the first input may begin inside its file, and the last one may end before its file does'
 complete -c mapred -n '__fish_seen_subcommand_from merge' -l help -d 'Print help'
+complete -c mapred -n '__fish_seen_subcommand_from verify' -F
+complete -c mapred -n '__fish_seen_subcommand_from verify' -l out -x -a '(__fish_complete_directories)' -d 'the directory of the parts [default: that of the verdict]'
+complete -c mapred -n '__fish_seen_subcommand_from verify' -l with-inputs -d 'the files of the input are tested too'
+complete -c mapred -n '__fish_seen_subcommand_from verify' -l help -d 'Print help'
