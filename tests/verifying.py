@@ -2,7 +2,7 @@
 of verdicts, parts and inputs; and each call failing in turn."""
 import hashlib
 import os
-import re
+import resource
 
 from failing import shim, with_failing
 from harness import seeded
@@ -238,6 +238,18 @@ def failing_calls(harness):
         harness.check(f"it comes to some {kind}", number > 1 or kind == "seek")
 
 
+def large_range(harness):
+    """A verdict that tells of a range of more than 1 GiB, in a file that has as much: it is refused in little memory."""
+    given, _ = result()
+    line = range_note("b", FILES["b"])
+    text = told(given, line, line.replace(b" 5 0 ", b" 1200000000 0 "))["verdict"]
+    where = harness.directory({**given, "verdict": text})
+    os.truncate(os.path.join(where, "b"), 1_200_000_000)
+    limit = lambda: resource.setrlimit(resource.RLIMIT_AS, (64 << 20, 64 << 20))
+    got = harness.run(["verify", "--with-inputs", "verdict"], cwd=where, preexec_fn=limit)[:3]
+    harness.check("a range of more than 1 GiB", got == no(b"OtherInput input 1"), repr(got))
+
+
 def long_line(harness):
     """A part with a line of 20 MB in the middle."""
     line = b"a" * 20_000_000
@@ -248,4 +260,4 @@ def long_line(harness):
     harness.check("a long line", got == yes(1, 3, 0), repr(got))
 
 
-GROUPS = {"verify": rows, "verify, random changes": changes, "verify, a long line": long_line, "failing calls of verify": failing_calls}
+GROUPS = {"verify": rows, "verify, random changes": changes, "verify, a long line": long_line, "verify, a large range": large_range, "failing calls of verify": failing_calls}

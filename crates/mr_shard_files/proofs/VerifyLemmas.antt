@@ -1,5 +1,5 @@
 -- Parts and ranges that are tested against a verdict.
-use Rattle.std.proofs.Common.{◌≡◌, ℕ, suc, ◌+◌, true, List, [], ◌∷◌, ◌++◌, append-nil, length, refl, ap, sym, ◌∙◌, subst, arith, string_bytes, inl, inr}
+use Rattle.std.proofs.Common.{◌≡◌, ℕ, suc, ◌+◌, ◌^◌, true, List, [], ◌∷◌, ◌++◌, append-nil, length, refl, ap, sym, ◌∙◌, subst, arith, string_bytes, inl, inr}
 use Rattle.std.specs.Prelude.{Option, Some, Bool, ◌⊎◌}
 use Rattle.mr_files.specs.Holding.{Faulty, Stored}
 use Rattle.mr_files.specs.Ranges.{IsRangeRefusal}
@@ -78,12 +78,12 @@ module _ (holds : Stored) (unreadable : Faulty) (r : RangeNote) (name : List ℕ
   file_unread (file.CannotWrite told) h = absurd h
   file_unread file.OutOfMemory h = tt
 
-  at_note : (fault : RangeFault) → IsRangeRefusal holds unreadable name r.from (Some end) r.length fault → IsRangeRefusal holds unreadable r.name r.from (Some (r.from + r.length)) r.length fault
+  at_note : (fault : RangeFault) → IsRangeRefusal holds unreadable name r.from (Some end) (2 ^ 30) fault → IsRangeRefusal holds unreadable r.name r.from (Some (r.from + r.length)) (2 ^ 30) fault
   at_note fault h =
-      subst (λ n. IsRangeRefusal holds unreadable n r.from (Some (r.from + r.length)) r.length fault) named
-      (subst (λ e. IsRangeRefusal holds unreadable name r.from (Some e) r.length fault) ends h)
+      subst (λ n. IsRangeRefusal holds unreadable n r.from (Some (r.from + r.length)) (2 ^ 30) fault) named
+      (subst (λ e. IsRangeRefusal holds unreadable name r.from (Some e) (2 ^ 30) fault) ends h)
 
-  pub range_refused : (fault : RangeFault) → IsRangeRefusal holds unreadable name r.from (Some end) r.length fault → IsRangeFault holds unreadable input r (told_of_range input fault)
+  pub range_refused : (fault : RangeFault) → IsRangeRefusal holds unreadable name r.from (Some end) (2 ^ 30) fault → IsRangeFault holds unreadable input r (told_of_range input fault)
   range_refused (File fault) h = file_unread fault h
   range_refused PastEnd h = (refl, inr (inr (inl (PastEnd, at_note PastEnd h))))
   range_refused (InsideALine byte) h = (refl, inr (inr (inl (InsideALine byte, at_note (InsideALine byte) h))))

@@ -113,10 +113,10 @@ pub record IsOtherTotal (holds : Stored) (beside : List ℕ) (v : Told) : Type 0
   pub parts : AreNoted holds beside v 0 texts
   pub other : TotalFits request.job texts v.pairs → ⊥
 
--- a range of the file is not read so: the file ends before, or a line goes on there
+-- a range of the file is not read so: the file ends before, a line goes on there, or it has more than 1 GiB
 abbrev pub IsNoRange : Stored → Faulty → RangeNote → RangeFault → Type 0
 IsNoRange holds unreadable r (File fault) = ⊥
-IsNoRange holds unreadable r fault = IsRangeRefusal holds unreadable r.name r.from (Some (r.from + r.length)) r.length fault
+IsNoRange holds unreadable r fault = IsRangeRefusal holds unreadable r.name r.from (Some (r.from + r.length)) (2 ^ 30) fault
 
 -- the note tells of other bytes than stand there
 abbrev pub IsOtherThere : Stored → RangeNote → Type 0

@@ -121,6 +121,12 @@ fn test_parts<S: Store>(
     Ok(total)
 }
 
+/// The most bytes of a range: an execution takes no more.
+const MOST_BYTES: u64 = 1_073_741_824;
+
+// The clauses have this number.
+const _: () = prove!(MOST_BYTES == 1_073_741_824);
+
 /// The range's bytes are those of its note.
 fn test_range<S: Store>(
     store: &S,
@@ -138,7 +144,7 @@ fn test_range<S: Store>(
     let Some(end) = range.from.checked_add(range.length) else {
         return Err(ShardFault::OtherInput { input });
     };
-    match read_range_within(store, alloc, name, range.from, Some(end), range.length) {
+    match read_range_within(store, alloc, name, range.from, Some(end), MOST_BYTES) {
         Ok((bytes, _)) => {
             let digest = Sha256::digest(bytes.as_slice());
             if digest.as_slice() == range.digest.as_slice() {
