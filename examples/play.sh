@@ -10,6 +10,9 @@ trap 'rm -rf "$place"' EXIT
 ln -s "$MAPRED" "$place/mapred"
 ln -s "$top/engines" "$place/engines"
 cd "$place"
+# In a fresh clone the first command says which program it runs: no example shows that.
+"$MAPRED" --version >"$place/mapred.log" 2>&1 || cat "$place/mapred.log" >&2
+rm -f "$place/mapred.log"
 command='' shown='' many=0
 # Runs the command that was read last, and compares what it prints with the lines below it.
 finish() {
