@@ -1,5 +1,6 @@
 //! Outputs of shards, merged as they are read: worked rows at each width of the windows.
-ghost use Rattle.std.specs.Prelude.{◌≡◌, length};
+ghost use Rattle.std.specs.Prelude.{◌≡◌, IfOk, length};
+ghost use Rattle.mr_shards.specs.Views.{IsWaitingFor};
 
 use mr_jobs::Job;
 use mr_shards::{MergeFault, Merger, ShardFiles, Window};
@@ -37,18 +38,19 @@ fn moved_on(at: (usize, usize), cuts: &[usize]) -> (usize, usize) {
     }
 }
 
-// Merges what the windows hold: how many bytes are taken of each text.
-fn step(
+// Merges what the windows hold.
+fn round(
     alloc: Global,
     job: &Job,
-    merger: &mut Merger,
+    merger: Merger,
     windows: &[Window<'_>],
-    out: &mut Vec<u8>,
-) -> Result<Vec<usize>, MergeFault>
-    requires { length windows.now ≡ length merger.old.held }
-    ensures { length merger.new.held ≡ length merger.old.held }
+) -> Result<Merger, MergeFault>
+    requires count { length windows.now ≡ length merger.held }
+    requires kind { IsWaitingFor job.now merger.waiting }
+    ensures count { IfOk result (λ m. length m.held ≡ length merger.held) }
+    ensures kind { IfOk result (λ m. IsWaitingFor job.now m.waiting) }
 {
-    merger.step(alloc, job, windows, out)
+    merger.merge_round(alloc, job, windows)
 }
 
 // Two texts, and what comes of them in windows of each width from there on, which grow by their width where nothing is
@@ -79,8 +81,9 @@ fn in_windows(
             window_at(row.first, at.0, wide),
             window_at(row.second, at.1, wide),
         ];
-        let cuts = step(alloc, job, &mut merger, &windows, out)?;
-        let next = moved_on(at, &cuts);
+        merger = round(alloc, job, merger, &windows)?;
+        out.extend_from_slice(merger.text())?;
+        let next = moved_on(at, merger.cuts());
         if windows[0].is_last && windows[1].is_last {
             return Ok(());
         }

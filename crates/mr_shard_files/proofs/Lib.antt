@@ -11,7 +11,7 @@ pub mod TailLemmas
 pub mod MadeLemmas
 pub mod AllLemmas
 pub mod ShownLemmas
-pub mod TurnLemmas
+pub mod RoundLemmas
 pub mod SettleLemmas
 pub mod RestLemmas
 pub mod ResultLemmas

@@ -1,16 +1,52 @@
 -- Pairs that lines of outputs state.
-use Rattle.std.proofs.Common.{◌≡◌, ℕ, zero, suc, ◌+◌, ◌<◌, ◌≤◌, ◌^◌, ◌⊎◌, inl, inr, Bool, true, false, List, [], ◌∷◌, ◌++◌, append_assoc, append-nil, length, length-append, drop, take, refl, ap, sym, ◌∙◌, subst, arith, Option, None, Some}
+use Rattle.std.proofs.Common.{◌≡◌, ℕ, zero, suc, ◌+◌, ◌<◌, ◌≤◌, ◌^◌, ◌⊎◌, inl, inr, Bool, true, false, cond, eqb, List, [], ◌∷◌, ◌++◌, append_assoc, append-nil, length, length-append, drop, take, refl, ap, sym, ◌∙◌, subst, arith, Option, None, Some}
 use Rattle.std.specs.Prelude.{IfSome, MatchOption, decimal}
 use Rattle.std.specs.List.{AllByRecursion, flat_map}
+use Rattle.std.proofs.lemmas.Bool.{ne_eqb}
 use Rattle.std.proofs.lemmas.Fmt.{decimal_injective}
 use Rattle.std.proofs.lemmas.List.{length-drop, take-append-drop, take_all}
 use Rattle.mr_bytes.specs.Cut.{Lacks}
 use Rattle.mr_jobs.specs.JobSpec.{JobSpec, WordCount, LinesWith, Resources, InvertedIndex, counts, has_lines}
-use Rattle.mr_shards.specs.Lines.{EndsLine, after_last, lines}
+use Rattle.mr_shards.specs.Lines.{EndsLine, after_last, lines, longer}
 use Rattle.mr_shards.proofs.LineLemmas.{there}
 use Rattle.mr_shards.proofs.ReadingLemmas.{after-last, decimal-lacks, lines-none}
-use Rattle.mr_shards.proofs.WindowLemmas.{lines-split}
 use Rattle.mr_shard_files.specs.Verified.{EndsInCount, HaveTotal, IsTotal, IsTotalOf, StateTogether, States, TotalFits}
+
+-- ---- the lines up to a line feed
+
+pub no-lines : (text : List ℕ) → Lacks 10 text → lines text ≡ []
+unfolding lines longer
+no-lines [] h = refl
+no-lines (b ∷ bs) h =
+    ap (λ t. cond t ([] ∷ lines bs) (longer b (lines bs))) (ne_eqb b 10 h.0) ∙ ap (longer b) (no-lines bs h.1)
+
+record HasFirst (ls : List (List ℕ)) : Type 0 where
+  pub first : List ℕ
+  pub rest : List (List ℕ)
+  pub is : ls ≡ first ∷ rest
+
+longer-first : (b : ℕ) (t : Bool) (ls : List (List ℕ)) → HasFirst ls → HasFirst (cond t ([] ∷ ls) (longer b ls))
+unfolding longer
+longer-first b true ls h = record { first = []; rest = ls; is = refl }
+longer-first b false ls h = record { first = b ∷ h.first; rest = h.rest; is = ap (longer b) h.is }
+
+some-line : (xs ys : List ℕ) → HasFirst (lines (xs ++ 10 ∷ ys))
+unfolding lines
+some-line [] ys = record { first = []; rest = lines ys; is = refl }
+some-line (b ∷ xs) ys = longer-first b (eqb b 10) (lines (xs ++ 10 ∷ ys)) (some-line xs ys)
+
+longer-append : (b : ℕ) (t : Bool) (ls ms rest : List (List ℕ)) → HasFirst ms → ls ≡ ms ++ rest
+    → cond t ([] ∷ ls) (longer b ls) ≡ cond t ([] ∷ ms) (longer b ms) ++ rest
+unfolding longer
+longer-append b true ls ms rest h e = ap (λ l. [] ∷ l) e
+longer-append b false ls ms rest h e =
+    ap (longer b) e ∙ ap (λ m. longer b (m ++ rest)) h.is ∙ ap (λ m. longer b m ++ rest) (sym h.is)
+
+-- the lines up to a line feed, and those behind it
+lines-split : (xs ys : List ℕ) → lines (xs ++ 10 ∷ ys) ≡ lines (xs ++ 10 ∷ []) ++ lines ys
+unfolding lines
+lines-split [] ys = refl
+lines-split (b ∷ xs) ys = longer-append b (eqb b 10) (lines (xs ++ 10 ∷ ys)) (lines (xs ++ 10 ∷ [])) (lines ys) (some-line xs []) (lines-split xs ys)
 
 -- ---- a line
 

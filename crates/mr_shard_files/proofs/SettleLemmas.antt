@@ -7,7 +7,7 @@ use Rattle.mr_files.specs.Holding.{Agrees, Faulty, Holding, Stored}
 use Rattle.mr_files.specs.Names.{name_of_part}
 use Rattle.mr_jobs.specs.JobSpec.{JobSpec}
 use Rattle.mr_shards.specs.declared.shift.ShardFiles.{ShardFiles}
-use Rattle.mr_shards.specs.Pieces.{Reading, output_with, outputs_of}
+use Rattle.mr_shards.specs.Rounds.{Reading, output_with, outputs_of}
 use Rattle.mr_shards.specs.Joined.{inputs_of, verdict_at}
 use Rattle.mr_shards.specs.RangeVerdicts.{files_of}
 use Rattle.mr_shards.specs.Verdict.{Told}
@@ -19,7 +19,7 @@ use Rattle.mr_shard_files.specs.Faults.{AreTold, IsPartAt, IsPartFault, IsPartit
 use Rattle.mr_shard_files.specs.Streams.{AllAre, AllMayBe, AreJoined, AreOpened, AreUnsettled, CountsDown, Ends, HasRead, IsOpened, IsOther, IsRefused, IsSettled, IsStream, MayBe, Moves, OneIs, ReportsUnread, is_done, length_told}
 use Rattle.mr_files.proofs.Lists.{names_more}
 use Rattle.mr_shard_files.proofs.FaultLemmas.{blamed}
-use Rattle.mr_shard_files.proofs.TurnLemmas.{all_none, nothings}
+use Rattle.mr_shard_files.proofs.RoundLemmas.{all_none, nothings}
 
 -- what is left of a reader's bytes, where they are known
 abbrev left_known : Option (List ℕ) → List ℕ

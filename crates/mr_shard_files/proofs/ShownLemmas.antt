@@ -1,7 +1,7 @@
 -- Windows on parts, and how many bytes are passed of each.
 use Rattle.std.proofs.Common.{◌≡◌, ℕ, zero, suc, ◌+◌, ◌<◌, ◌≤◌, List, [], ◌∷◌, ◌++◌, length, get_or, take, refl, ap, sym, ◌∙◌, subst, arith}
 use Rattle.std.proofs.lemmas.List.{take_more}
-use Rattle.mr_shards.specs.declared.window.Window.{Window}
+use Rattle.mr_shards.specs.declared.merger.Window.{Window}
 use Rattle.mr_shard_files.specs.declared.stream.Part.{Part}
 use Rattle.mr_shard_files.specs.Streams.{AreHeld, AreWindowsOf, is_done}
 

@@ -3,11 +3,11 @@ use Rattle.std.proofs.Common.{◌≡◌, ℕ, zero, suc, ◌+◌, ◌<◌, List,
 use Rattle.std.proofs.lemmas.List.{take_more}
 use Rattle.sha2.specs.declared.Sha256.{Sha256}
 use Rattle.mr_jobs.specs.JobSpec.{JobSpec}
-use Rattle.mr_shards.specs.declared.window.Window.{Window}
-use Rattle.mr_shards.specs.Pieces.{Standing}
+use Rattle.mr_shards.specs.declared.merger.Window.{Window}
+use Rattle.mr_shards.specs.Rounds.{Standing}
 use Rattle.mr_shard_files.specs.declared.stream.Part.{Part}
 use Rattle.mr_shard_files.specs.declared.tails.Tail.{Tail}
-use Rattle.mr_shard_files.specs.Streams.{AllAre, AreNext, AreTailsOf, AreTaken, AreWindowsOf, HasMore, IsDigested, Moves, StepsOver}
+use Rattle.mr_shard_files.specs.Streams.{AllAre, AreNext, AreTailsOf, AreTaken, AreWindowsOf, HasMore, IsDigested, MergesHeld, Moves}
 use Rattle.mr_shard_files.proofs.StreamLemmas.{done_so, moves_digested, moves_on}
 
 -- ---- tails
@@ -106,11 +106,6 @@ module _ {R : Type 0} where
   shown_digested (h ∷ hs) (o ∷ os) (n ∷ ns) [] a b = absurd b
   shown_digested (h ∷ hs) (o ∷ os) (n ∷ ns) (w ∷ ws) a b = (b.0 ∙ sym a.0.held, b.1 ∙ sym (done_so o n a.0), shown_digested hs os ns ws a.1 b.2)
 
-  -- what was stepped over is the same
-  pub steps_digested : (job : JobSpec) (hs : List Sha256) (os ns : List (Part R)) (cs : List ℕ) (m m' : Standing) (out out' : List ℕ) → AllAre (λ _ o n. IsDigested o n) hs os ns → StepsOver job os cs m m' out out' → StepsOver job ns cs m m' out out'
-  steps_digested job hs os ns cs m m' out out' a s = record {
-    windows = s.windows;
-    shown = shown_digested hs os ns s.windows a s.shown;
-    within = s.within;
-    adds = s.adds;
-  }
+  -- what was merged is the same
+  pub merges_digested : (job : JobSpec) (hs : List Sha256) (os ns : List (Part R)) (m m' : Standing) → AllAre (λ _ o n. IsDigested o n) hs os ns → MergesHeld job os m m' → MergesHeld job ns m m'
+  merges_digested job hs os ns m m' a s = record { windows = s.windows; shown = shown_digested hs os ns s.windows a s.shown; merges = s.merges }

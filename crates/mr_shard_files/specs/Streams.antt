@@ -11,8 +11,8 @@ use Rattle.mr_jobs.specs.JobSpec.{JobSpec}
 use Rattle.mr_shards.specs.declared.shift.ShardFiles.{ShardFiles}
 use Rattle.mr_shards.specs.declared.merger.MergeFault.{MergeFault}
 use Rattle.mr_shards.specs.declared.merger.MergeFault.TheVariants as merge
-use Rattle.mr_shards.specs.declared.window.Window.{Window}
-use Rattle.mr_shards.specs.Pieces.{Adds, AreWindows, AreWithin, IsAfter, IsMerged, Reading, Standing, outputs_of}
+use Rattle.mr_shards.specs.declared.merger.Window.{Window}
+use Rattle.mr_shards.specs.Rounds.{AreWindows, IsAfter, IsMerged, Merges, Reading, Standing, outputs_of}
 use Rattle.mr_shards.specs.Refused.{Blames}
 use Rattle.mr_shards.specs.Joined.{verdict_at}
 use Rattle.mr_shards.specs.Verdict.{Told}
@@ -23,10 +23,9 @@ use Rattle.mr_shard_files.specs.declared.fault.ShardFault.TheVariants.{CannotRea
 use Rattle.mr_shard_files.specs.declared.stream.Part.{Part}
 use Rattle.mr_shard_files.specs.declared.tails.Tail.{Tail}
 use Rattle.sha2.specs.declared.Sha256.{Sha256}
-use Rattle.mr_shard_files.specs.declared.turns.Beside.{Beside}
-use Rattle.mr_shard_files.specs.declared.turns.Turn.{Turn}
-use Rattle.mr_shard_files.specs.declared.turns.Stop.{Stop}
-use Rattle.mr_shard_files.specs.declared.turns.Stop.TheVariants as stop
+use Rattle.mr_shard_files.specs.declared.rounds.Beside.{Beside}
+use Rattle.mr_shard_files.specs.declared.rounds.Stop.{Stop}
+use Rattle.mr_shard_files.specs.declared.rounds.Stop.TheVariants as stop
 
 -- ---- a part
 
@@ -217,42 +216,41 @@ AreUnsettled {R} remaining can_fail p vs qs (OtherPart shard partition) = (parti
     × ((ends : List (Part R)) × AllAre (IsSettled remaining can_fail p) (take shard vs) (take shard qs) ends)
 AreUnsettled remaining can_fail p vs qs fault = OneIs (λ _ q. ReportsUnread (can_fail q.reader) (string_bytes q.name) fault) qs
 
--- ---- a turn
+-- ---- a round
 
--- windows on the parts were stepped over
-pub record StepsOver {R : Type 0} (job : JobSpec) (parts : List (Part R)) (cuts : List ℕ) (old new : Standing) (out out' : List ℕ) : Type 0 where
+-- windows on the parts were merged
+pub record MergesHeld {R : Type 0} (job : JobSpec) (parts : List (Part R)) (old new : Standing) : Type 0 where
   pub windows : List Window
   pub shown : AreWindowsOf parts windows
-  pub within : AreWithin cuts windows
-  pub adds : Adds job windows cuts old new out out'
+  pub merges : Merges job windows old new
 
 -- windows on the parts are blamed, or memory is wanting
 abbrev pub IsBlamedOver : {R : Type 0} → JobSpec → List (Part R) → Standing → MergeFault → Type 0
 IsBlamedOver job parts m e = (e ≡ merge.OutOfMemory)
-    ⊎ ((ws : List Window) × AreWindowsOf parts ws × ((rs : List Reading) → IsAfter job rs m → AreWindows rs ws → Blames job (outputs_of rs) e))
+    ⊎ ((ws : List Window) × AreWindowsOf parts ws × ((rs : List Reading) (text : List ℕ) → IsAfter job rs text m → AreWindows rs ws → Blames job (outputs_of rs) e))
 
--- windows on the parts are not stepped over
+-- windows on the parts are not merged
 abbrev pub IsStoppedAt : {R : Type 0} → JobSpec → List (Part R) → Standing → Stop → Type 0
 IsStoppedAt job parts m (stop.Part fault) = fault ≡ OutOfMemory
 IsStoppedAt job parts m (stop.Merge fault) = IsBlamedOver job parts m fault
 
--- there is no next turn: a part can't be read, or what was merged is not written, or windows on the parts are not stepped over
-abbrev pub IsTurnFault : {R : Type 0} → (R → Option (List ℕ)) → (R → Type 0) → (ShardFault → Type 0) → JobSpec → List (Part R) → List (Part R) → Standing → Stop → Type 0
-IsTurnFault remaining can_fail unwritten job old new m (stop.Part fault) =
+-- there is no next round: a part can't be read, or what was merged is not written, or windows on the parts are not merged
+abbrev pub IsRoundFault : {R : Type 0} → (R → Option (List ℕ)) → (R → Type 0) → (ShardFault → Type 0) → JobSpec → List (Part R) → List (Part R) → Standing → Stop → Type 0
+IsRoundFault remaining can_fail unwritten job old new m (stop.Part fault) =
     (fault ≡ OutOfMemory) ⊎ (OneIs (λ _ q. ReportsUnread (can_fail q.reader) (string_bytes q.name) fault) old ⊎ unwritten fault)
-IsTurnFault remaining can_fail unwritten job old new m (stop.Merge fault) = AllAre (λ _ o n. Moves remaining can_fail [] o n) old old new × IsBlamedOver job new m fault
+IsRoundFault remaining can_fail unwritten job old new m (stop.Merge fault) = AllAre (λ _ o n. Moves remaining can_fail [] o n) old old new × IsBlamedOver job new m fault
 
--- a turn is not had beside digests: it was not merged, or memory is wanting
-abbrev pub IsNotBeside : Result Turn MergeFault → Stop → Type 0
+-- a round is not had beside digests: it was not merged, or memory is wanting
+abbrev pub IsNotBeside : Result Standing MergeFault → Stop → Type 0
 IsNotBeside merged e = (e ≡ stop.Part OutOfMemory) ⊎ ((fault : MergeFault) × (merged ≡ Err fault) × (e ≡ stop.Merge fault))
 
--- the first digests stand before those that were taken beside the turn
+-- the first digests stand before those that were taken beside the round
 pub record AreAllBeside (first : Result (Vec Sha256 Global) AllocError) (beside : Result Beside Stop) (all : Beside) : Type 0 where
   pub front : Vec Sha256 Global
   pub back : Beside
   pub first_is : first ≡ Ok front
   pub back_is : beside ≡ Ok back
-  pub turn : all.turn ≡ back.turn
+  pub merger : all.merger ≡ back.merger
   pub digests : all.digests.items ≡ front.items ++ back.digests.items
 
 -- parts are not merged as they are read, or what they are merged to is not written

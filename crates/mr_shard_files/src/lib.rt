@@ -7,11 +7,11 @@ mod listing;
 mod merging;
 mod pairs;
 mod partition;
+mod rounds;
 mod sharing;
 mod stream;
 mod streams;
 mod tails;
-mod turns;
 mod verifying;
 
 pub use crate::fault::ShardFault;

@@ -18,7 +18,7 @@ use crate::fault::ShardFault;
 use crate::merging::open_all;
 use crate::sharing::put_verdict;
 use crate::stream::Part;
-use crate::turns::joined;
+use crate::rounds::merge_partition;
 use mr_files::{Store, WriteFault, part_file, part_name};
 use mr_jobs::{Job, Request};
 use mr_shards::{FileNote, ShardFiles, Verdict, note_for};
@@ -74,7 +74,7 @@ fn part_filled<R: CountedRead + Drop, W: CountedWrite + Drop, T: Threads>(
         ⊎ ReportsUnwritten (W.can_fail made.old.writer) (string_bytes made.old.name) e) }
     ensures name { made.new.name ≡ made.old.name }
 {
-    joined(rt, alloc, job, files, parts, verdicts, partition, made)?;
+    merge_partition(rt, alloc, job, files, parts, verdicts, partition, made)?;
     made.flush(alloc)?;
     Ok(made.note(alloc, partition)?)
 }

@@ -36,8 +36,8 @@ fn longest_held<R: CountedRead + Drop>(parts: &[Part<R>]) -> usize {
     longest
 }
 
-/// A turn reads at least this share of the longest window. A long line is scanned in each turn that
-/// it waits, so its turns must be few; all shares together are no longer than that window.
+/// A round reads at least this share of the longest window. A long line is scanned in each round
+/// that it waits, so its rounds must be few; all shares together are no longer than that window.
 pub(crate) fn share_of<R: CountedRead + Drop>(parts: &[Part<R>]) -> usize {
     longest_held(parts) / parts.len().max(1)
 }

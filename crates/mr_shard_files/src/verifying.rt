@@ -24,7 +24,7 @@ use crate::merging::open_part;
 use crate::pairs::{pairs_in, sum_of, whole_lines};
 use crate::stream::Part;
 use crate::streams::settle;
-use crate::turns::WINDOW;
+use crate::rounds::WINDOW;
 use mr_files::{Store, read_range_within, verdict_name};
 use mr_jobs::{Job, Request};
 use mr_shards::{FileRange, Verdict, request_of};

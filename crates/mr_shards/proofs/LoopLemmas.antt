@@ -21,20 +21,17 @@ use Rattle.mr_shards.specs.Lines.{groups_in, group_in, joins, NoneFalls}
 use Rattle.mr_shards.specs.Refused.{AreInFiles, AreRead, IsShardText}
 use Rattle.mr_shards.specs.Views.{group_of}
 use Rattle.mr_shards.specs.Cursors.{headed, left, IsHead, IsHeadFor, Goes, with_waiting}
-use Rattle.mr_shards.specs.Outputs.{parts_in, Stands, AreOpened}
+use Rattle.mr_shards.specs.Outputs.{parts_in, Stands}
+use Rattle.mr_shards.specs.Rounds.{IsBelow, Kept, Told}
 use Rattle.mr_shards.proofs.MergedLaws.{keys, with_group-keys}
 use Rattle.mr_shards.proofs.MergeLemmas.{merged_groups-rise, with_group-joined, in_front}
 use Rattle.mr_shards.proofs.ReadingLemmas.{lines-none}
-use Rattle.mr_shards.proofs.TotalLemmas.{IsWithin, within-first, within-step}
+use Rattle.mr_shards.proofs.TotalLemmas.{within-step}
 use Rattle.mr_shards.specs.Portions.{Shift, behind, past_shard, merged_groups, merged_portions, no_shift, shifted_group, shifted_parts}
 use Rattle.mr_shards.proofs.ShiftLemmas.{merged_at_once}
 use Rattle.mr_shards.proofs.StepLemmas.{IsLeast, NotLess, NoneBefore, less-not, not_less-differs, turned, IsBest, Step, step-kinds, step-stands, step-pull, step-behind, step-at, merged-none_before}
 
 -- ---- the line that waits
-
-abbrev pub IsBelow : JobSpec → Option Group → List Cursor → Type 0
-IsBelow job None cs = Unit {0}
-IsBelow job (Some w) cs = AllByRecursion (NoneBefore w.key) (map (left job) cs)
 
 joined-text : (literal : List ℕ) (fold : Bool) (g h : Group) → g.key ≡ h.key
     → group_text (LinesWith literal fold) (joined g h) ≡ group_text (LinesWith literal fold) g ++ group_text (LinesWith literal fold) h
@@ -117,21 +114,16 @@ module _ (job : JobSpec) (g next : Group) (gs : List Group) (old new : List ℕ)
   goes-key (Some w) (inl h) = ap (λ (q : Group). q.key) h.1 ∙ h.0
   goes-key (Some w) (inr h) = ap (λ (q : Group). q.key) h.0
 
+-- the same behind other bytes
+pub goes-front : (job : JobSpec) (waiting : Option Group) (g next : Group) (text old new : List ℕ) → Goes job waiting g next old new → Goes job waiting g next (text ++ old) (text ++ new)
+goes-front job None g next text old new h = (h.0, ap (λ (o : List ℕ). text ++ o) h.1)
+goes-front job (Some w) g next text old new (inl h) = inl (h.0, h.1, ap (λ (o : List ℕ). text ++ o) h.2)
+goes-front job (Some w) g next text old new (inr h) = inr (h.0, ap (λ (o : List ℕ). text ++ o) h.1 ∙ sym (append_assoc text old (group_text job w)), h.2)
+
 -- ---- what the loop keeps
 
-pub record Told (job : JobSpec) (outputs : List ShardText) (cursors : List Cursor) (waiting : Option Group) (out : List ℕ) : Type 0 where
-  pub stands : AllByRecursion (IsShardText job) outputs
-  pub text : out ++ texts job (with_waiting waiting (merged_groups (map (left job) cursors))) ≡ texts job (merged_portions (parts_in job outputs))
-  pub below : IsBelow job waiting cursors
-
-pub record Kept (job : JobSpec) (outputs : List ShardText) (cursors : List Cursor) (waiting : Option Group) (out : List ℕ) : Type 0 where
-  pub kinds : AllByRecursion (IsHeadFor job) cursors
-  pub read : AreRead job cursors outputs
-  pub few : IsWithin job outputs cursors waiting
-  pub told : AllByRecursion (Stands job) cursors → Told job outputs cursors waiting out
-
-below-some : (job : JobSpec) (waiting : Option Group) (cs : List Cursor) (w : Group) → waiting ≡ Some w → IsBelow job waiting cs → AllByRecursion (NoneBefore w.key) (map (left job) cs)
-below-some job waiting cs w e b = subst (λ (o : Option Group). IsBelow job o cs) e b
+below-some : (waiting : Option Group) (gss : List (List Group)) (w : Group) → waiting ≡ Some w → IsBelow waiting gss → AllByRecursion (NoneBefore w.key) gss
+below-some waiting gss w e b = subst (λ (o : Option Group). IsBelow o gss) e b
 
 pub kept-step : (job : JobSpec) (outputs : List ShardText) (old new : List Cursor) (waiting : Option Group) (line : Line) (next : Group) (out out' : List ℕ)
     → Step job old new line → AreRead job new outputs → Goes job waiting (group_of line) next out out' → Kept job outputs old waiting out → Kept job outputs new (Some next) out'
@@ -147,33 +139,13 @@ kept-step job outputs old new waiting line next out out' s read g k =
           let behind = step-behind job old new line s st in record {
             stands = t.stands;
             text = goes-text job one next (merged_groups M) out out' waiting g (merged_groups-rise M) (merged-none_before line.key.now M behind)
-                (λ w e. step-at job old new line s w.key (below-some job waiting old w e t.below))
+                (λ w e. step-at job old new line s w.key (below-some waiting (map (left job) old) w e t.below))
                 ∙ ap (λ (gs : List Group). out ++ texts job (with_waiting waiting gs)) (sym (step-pull job old new line s st)) ∙ t.text;
             below = subst (λ (q : List ℕ). AllByRecursion (NoneBefore q) M) (sym (goes-key job one next (merged_groups M) out out' waiting g)) behind;
           });
     }
 
 -- ---- the ends of the loop
-
-opened-all : (job : JobSpec) (cs : List Cursor) (os : List ShardText) → AreOpened job cs os → AllByRecursion (Stands job) cs → AllByRecursion (IsShardText job) os
-opened-all job [] [] o s = tt
-opened-all job [] (x ∷ os) o s = absurd o
-opened-all job (c ∷ cs) [] o s = absurd o
-opened-all job (c ∷ cs) (x ∷ os) o s = (o.0 s.0, opened-all job cs os o.1 s.1)
-
-pub kept-first : (job : JobSpec) (outputs : List ShardText) (cs : List Cursor) (out : List ℕ) → AllByRecursion (IsHeadFor job) cs → AreRead job cs outputs → AreOpened job cs outputs
-    → map (left job) cs ≡ shifted_parts no_shift (parts_in job outputs) → out ≡ [] → Kept job outputs cs None out
-kept-first job outputs cs out kinds read opened lefts none = record {
-  kinds = kinds;
-  read = read;
-  few = within-first job outputs cs lefts;
-  told = λ st. record {
-    stands = opened-all job cs outputs opened st;
-    text = ap (λ (o : List ℕ). o ++ texts job (merged_groups (map (left job) cs))) none
-        ∙ ap (λ (gss : List (List Group)). texts job (merged_groups gss)) lefts ∙ ap (texts job) (sym (merged_at_once (parts_in job outputs)));
-    below = tt;
-  };
-}
 
 no-groups : (job : JobSpec) → groups_in job [] ≡ []
 no-groups job = ap (map (group_in job)) lines-none
@@ -189,17 +161,17 @@ all-stand job (c ∷ cs) ends kinds =
       record {
         rest = (
           record { groups = []; text_is = empty; lines = tt; in_turn = tt },
-          subst (AllByRecursion (λ (g : Group). AreInFiles c.count g.values)) (sym (ap (groups_in job) empty ∙ no-groups job)) tt,
+          subst (AllByRecursion (λ (g : Group). AreInFiles c.held.count g.values)) (sym (ap (groups_in job) empty ∙ no-groups job)) tt,
         );
-        in_order = subst (λ (o : Option Line). NoneFalls (headed o (map (shifted_group c.before) (groups_in job c.rest.now)))) (sym ends.0) tt;
+        in_order = subst (λ (o : Option Line). NoneFalls (headed o (map (shifted_group c.held.before) (groups_in job c.rest.now)))) (sym ends.0) tt;
       },
       all-stand job cs ends.1 kinds.1,
     )
 
-none-left : (job : JobSpec) (cs : List Cursor) → AllByRecursion (λ c. c.head ≡ None) cs → merged_groups (map (left job) cs) ≡ []
+pub none-left : (job : JobSpec) (cs : List Cursor) → AllByRecursion (λ c. c.head ≡ None) cs → merged_groups (map (left job) cs) ≡ []
 none-left job [] ends = refl
 none-left job (c ∷ cs) ends =
-    ap (λ (o : Option Line). merged (headed o (map (shifted_group c.before) (groups_in job c.rest.now))) (merged_groups (map (left job) cs))) ends.0 ∙ none-left job cs ends.1
+    ap (λ (o : Option Line). merged (headed o (map (shifted_group c.held.before) (groups_in job c.rest.now))) (merged_groups (map (left job) cs))) ends.0 ∙ none-left job cs ends.1
 
 pub record Ends (job : JobSpec) (outputs : List ShardText) (waiting : Option Group) (out : List ℕ) : Type 0 where
   pub stands : AllByRecursion (IsShardText job) outputs
@@ -209,30 +181,6 @@ pub kept-end : (job : JobSpec) (outputs : List ShardText) (cs : List Cursor) (wa
 kept-end job outputs cs waiting out ends k =
     let t = k.told (all-stand job cs ends k.kinds) in
     record { stands = t.stands; text = ap (λ (gs : List Group). out ++ texts job (with_waiting waiting gs)) (sym (none-left job cs ends)) ∙ t.text }
-
--- ---- opening
-
-opened-push : (job : JobSpec) (cs : List Cursor) (os : List ShardText) (c : Cursor) (o : ShardText) → AreOpened job cs os → (Stands job c → IsShardText job o) → AreOpened job (cs ++ c ∷ []) (os ++ o ∷ [])
-opened-push job [] [] c o a f = (f, tt)
-opened-push job [] (x ∷ os) c o a f = absurd a
-opened-push job (d ∷ cs) [] c o a f = absurd a
-opened-push job (d ∷ cs) (x ∷ os) c o a f = (a.0, opened-push job cs os c o a.1 f)
-
-pub opened-more : (job : JobSpec) (cs : List Cursor) (os : List ShardText) (i : ℕ) (d : ShardText) (c : Cursor) → i < length os → AreOpened job cs (take i os)
-    → (Stands job c → IsShardText job (get_or os i d)) → AreOpened job (cs ++ c ∷ []) (take (i + 1) os)
-opened-more job cs os i d c h a f = subst (AreOpened job (cs ++ c ∷ [])) (sym (take_more os i d h)) (opened-push job cs (take i os) c (get_or os i d) a f)
-
-pub lefts-more : (job : JobSpec) (cs : List Cursor) (os : List ShardText) (i : ℕ) (before next : Shift) (d : ShardText) (c : Cursor) (all : List (List Group)) → i < length os
-    → map (left job) cs ++ shifted_parts before (parts_in job (drop i os)) ≡ all → left job c ≡ map (shifted_group before) (groups_in job (get_or os i d).text.now)
-    → next ≡ behind before (past_shard (get_or os i d).files)
-    → map (left job) (cs ++ c ∷ []) ++ shifted_parts next (parts_in job (drop (i + 1) os)) ≡ all
-lefts-more job cs os i before next d c all h e here n =
-    ap (λ (l : List (List Group)). l ++ shifted_parts next (parts_in job (drop (i + 1) os))) (map-append (left job) cs (c ∷ []))
-    ∙ append_assoc (map (left job) cs) (left job c ∷ []) (shifted_parts next (parts_in job (drop (i + 1) os)))
-    ∙ ap (λ (gs : List Group). map (left job) cs ++ gs ∷ shifted_parts next (parts_in job (drop (i + 1) os))) here
-    ∙ ap (λ (s : Shift). map (left job) cs ++ map (shifted_group before) (groups_in job (get_or os i d).text.now) ∷ shifted_parts s (parts_in job (drop (i + 1) os)))
-    n
-    ∙ ap (λ (l : List ShardText). map (left job) cs ++ shifted_parts before (parts_in job l)) (sym (drop_more os i d h)) ∙ e
 
 pub least-within : (cs : List Cursor) (at : ℕ) (line : Line) → IsLeast cs at line → at < length cs
 least-within cs at line b = omega (arith, ap length b.is, length-append b.front (b.one ∷ b.back), b.place)

@@ -24,8 +24,11 @@ use Rattle.std.proofs.Math.Nat.{mod-add-mod}
 use Rattle.mr_sequential.proofs.SourceLemmas.{flat_map-append}
 use Rattle.mr_shards.specs.Lines.{HasLine, groups_in, group_in}
 use Rattle.mr_shards.specs.Views.{BeginsWithLine, IsParsed, IsUnshifted, group_of, values_of}
-use Rattle.mr_shards.specs.Cursors.{ReadsOn}
-use Rattle.mr_shards.specs.Refused.{AreRead, Blames, BlamesOnly, InTurn, HasBadPlace, IsBadLine, IsBadPlace, IsLineOf, IsReadAt, IsReadOf, IsReadTo, IsRest, IsUnmoved, MayFollow, NoLineFollows, Overflows, TakesNot, TellsPlace, count_at, files_in, last_key, last_of, shift_before, shift_from, text_at, total_of}
+use Rattle.mr_shards.specs.Cursors.{BlamesNext, ReadsOn}
+use Rattle.mr_shards.specs.declared.cursor.Held.{Held}
+use Rattle.mr_shards.specs.Rounds as Rounds
+use Rattle.mr_shards.specs.Rounds.{IsReadUpTo, Reading}
+use Rattle.mr_shards.specs.Refused.{AreRead, Blames, BlamesOnly, InTurn, HasBadPlace, IsBadLine, IsBadPlace, IsLineOf, IsReadAt, IsReadOf, IsReadTo, IsRest, IsUnmoved, MayFollow, NoLineFollows, Overflows, TakesNot, TellsPlace, count_at, files_in, last_key, last_of, lines_read, shift_before, shift_from, text_at, total_of}
 use Rattle.mr_shards.proofs.LineLemmas.{IsCut, begun, cut-read, cut-text, list-has, list-told}
 use Rattle.mr_shards.proofs.ReadingLemmas.{lines-none}
 
@@ -139,7 +142,7 @@ read-end job text last rest number none r = record {
   number_is = r.number_is;
 }
 
-read-none : (job : JobSpec) (text : List ℕ) → IsReadTo job text None text 0
+pub read-none : (job : JobSpec) (text : List ℕ) → IsReadTo job text None text 0
 read-none job text = record { groups = []; text_is = refl; lines = tt; in_turn = tt; last_is = λ _. refl; number_is = refl }
 
 -- ---- a bad line
@@ -175,24 +178,8 @@ text-at os i d h = get_or-map (λ (o : ShardText). o.text.now) os i d [] h
 pub count-at : (os : List ShardText) (i : ℕ) (d : ShardText) → i < length os → count_at os i ≡ (get_or os i d).files.count
 count-at os i d h = get_or-map (λ (o : ShardText). o.files.count) os i d 0 h
 
-pub read-push : (job : JobSpec) (cs : List Cursor) (os : List ShardText) (i : ℕ) (d : ShardText) (c : Cursor) → length cs ≡ i → i < length os → AreRead job cs os
-    → ((text : List ℕ) → IsReadTo job text None (get_or os i d).text.now 0 → IsReadOf job text c) → c.before ≡ shift_before os i → c.count ≡ (get_or os i d).files.count
-    → AreRead job (cs ++ c ∷ []) os
-read-push job cs os i d c same h read here behind count j e l =
-    elim (cases_eq j i) [
-      | inl at ↦
-          (let one : get_or (cs ++ c ∷ []) j e ≡ c = get_or_at cs c [] e j (omega (arith, same, at)) in
-          let t : List ℕ = (get_or os i d).text.now in
-          let text : text_at os j ≡ t = ap (text_at os) at ∙ text-at os i d h in
-          let now : IsReadOf job (text_at os j) c = here (text_at os j) (subst (λ (u : List ℕ). IsReadTo job u None t 0) (sym text) (read-none job t)) in
-          subst (IsReadAt job os j) (sym one) (now, behind ∙ ap (shift_before os) (sym at), count ∙ sym (count-at os i d h) ∙ ap (count_at os) (sym at)))
-      | inr other ↦
-          (let low : j < length cs = omega (arith, l, length_push cs c, same, other) in
-          subst (IsReadAt job os j) (sym (get_or_append_left cs (c ∷ []) e j low)) (read j e low))
-    ]
-
 read-set : (job : JobSpec) (cs : List Cursor) (os : List ShardText) (at : ℕ) (one next : Cursor) → at < length cs → get_or cs at one ≡ one → AreRead job cs os
-    → ((text : List ℕ) → IsReadOf job text one → IsReadOf job text next) → next.before ≡ one.before → next.count ≡ one.count → AreRead job (set cs at next) os
+    → ((text : List ℕ) → IsReadOf job text one → IsReadOf job text next) → next.held.before ≡ one.held.before → next.held.count ≡ one.held.count → AreRead job (set cs at next) os
 read-set job cs os at one next h is read here stays count j d l =
     elim (cases_eq j at) [
       | inl same ↦
@@ -267,16 +254,6 @@ place-behind job text rest is_so gs e all f = record {
 
 -- ---- how many files
 
-shift-append : (s : Shift) (xs ys : List ShardText) → shift_from s (xs ++ ys) ≡ shift_from (shift_from s xs) ys
-shift-append s [] ys = refl
-shift-append s (x ∷ xs) ys = shift-append (behind s (past_shard x.files)) xs ys
-
-pub shift-next : (os : List ShardText) (i : ℕ) (d : ShardText) (before next : Shift) → i < length os → before ≡ shift_before os i → next ≡ behind before (past_shard (get_or os i d).files)
-    → next ≡ shift_before os (i + 1)
-shift-next os i d before next less is sum =
-    sum ∙ ap (λ (s : Shift). behind s (past_shard (get_or os i d).files)) is ∙ sym (shift-append no_shift (take i os) (get_or os i d ∷ []))
-    ∙ ap (shift_from no_shift) (sym (take_more os i d less))
-
 shift-files : (s : Shift) (os : List ShardText) → (shift_from s os).files ≡ s.files + files_in os
 shift-files s [] = omega arith
 shift-files s (o ∷ os) =
@@ -326,33 +303,37 @@ blames-all job at count before os last text number (NoSuchFile shard) read behin
 blames-all job at count before os last text number PlaceTooFar read behind files b = inr (bad-place job at count before os last text number PlaceTooFar read behind files b)
 blames-all job at count before os last text number OutOfMemory read behind files b = tt
 
-pub blames-opening : (job : JobSpec) (i : ℕ) (before : Shift) (os : List ShardText) (d : ShardText) (e : MergeFault) → i < length os → before ≡ shift_before os i
-    → BlamesOnly job i (get_or os i d).files.count before None (get_or os i d).text.now 0 e → Blames job os e
-blames-opening job i before os d e h behind b =
-    blames-all job i (get_or os i d).files.count before os None (get_or os i d).text.now 0 e
-    (subst (λ (t : List ℕ). IsReadTo job t None (get_or os i d).text.now 0) (sym (text-at os i d h)) (read-none job (get_or os i d).text.now)) behind
-    (sym (count-at os i d h)) b
+-- a text that begins with no line has none that follows, whatever is before it
+pub weaker : (job : JobSpec) (at count : ℕ) (before : Shift) (last : Option (List ℕ)) (text : List ℕ) (number : ℕ) (e : MergeFault)
+    → BlamesOnly job at count before None text number e → BlamesOnly job at count before last text number e
+weaker job at count before last text number (BadLine shard line) b = (b.0, b.1, b.2, λ g more l follows e. b.3 g more l tt e)
+weaker job at count before last text number TotalTooLarge b = b
+weaker job at count before last text number TooManyFiles b = b
+weaker job at count before last text number (NoSuchFile shard) b = b
+weaker job at count before last text number PlaceTooFar b = b
+weaker job at count before last text number OutOfMemory b = b
+
+pub blames-opening : (job : JobSpec) (os : List ShardText) (i : ℕ) (h : Held) (r : Reading) (text : List ℕ) (e : MergeFault) → IsReadUpTo job os i h r → Rounds.behind r ≡ text
+    → BlamesOnly job i h.count h.before None text h.lines e → Blames job os e
+blames-opening job os i h r text e read is b =
+    blames-all job i h.count h.before os read.last text h.lines e (subst (λ (t : List ℕ). IsReadTo job (text_at os i) read.last t h.lines) is read.read) read.before read.count
+    (weaker job i h.count h.before read.last text h.lines e b)
 
 pub blames-left : (job : JobSpec) (at : ℕ) (cs : List Cursor) (os : List ShardText) (one : Cursor) (e : MergeFault) → at < length cs → get_or cs at one ≡ one → AreRead job cs os
-    → BlamesOnly job at one.count one.before (last_key one.head) one.rest.now one.lines e → Blames job os e
+    → BlamesNext job at one e → Blames job os e
 blames-left job at cs os one e h is read b =
     let here : IsReadAt job os at one = subst (IsReadAt job os at) is (read at one h) in
-    blames-all job at one.count one.before os (last_key one.head) one.rest.now one.lines e here.0 here.1 here.2 b
+    blames-all job at one.held.count one.held.before os (last_key one.head) one.rest.now (lines_read one) e here.0 here.1 here.2 b
 
--- what is behind a shard is not moved so far
-pub passes-not : (job : JobSpec) (os : List ShardText) (i : ℕ) (d : ShardText) (before : Shift) (e : MergeFault) → i < length os → before ≡ shift_before os i
-    → PassesNot (behind before (past_shard (get_or os i d).files)) e → Blames job os e
-passes-not job os i d before e less is not =
-    by e (subst (λ (s : Shift). PassesNot s e) (shift-next os i d before (behind before (past_shard (get_or os i d).files)) less is refl) not)
-  where
-    by : (f : MergeFault) → PassesNot (shift_before os (i + 1)) f → Blames job os f
-    by (BadLine shard line) n = absurd n
-    by TotalTooLarge n = absurd n
-    by TooManyFiles n =
-        omega (arith, n, shift-files no_shift (take (i + 1) os), sum_by-take-le (λ (o : ShardText). (past_shard o.files).files) os (i + 1))
-    by (NoSuchFile shard) n = absurd n
-    by PlaceTooFar n = inl (i + 1, n)
-    by OutOfMemory n = absurd n
+-- what is behind so many outputs is not moved so far
+pub passes-not : (job : JobSpec) (os : List ShardText) (n : ℕ) (e : MergeFault) → PassesNot (shift_before os n) e → Blames job os e
+passes-not job os n (BadLine shard line) not = absurd not
+passes-not job os n TotalTooLarge not = absurd not
+passes-not job os n TooManyFiles not =
+    omega (arith, not, shift-files no_shift (take n os), sum_by-take-le (λ (o : ShardText). (past_shard o.files).files) os n)
+passes-not job os n (NoSuchFile shard) not = absurd not
+passes-not job os n PlaceTooFar not = inl (n, not)
+passes-not job os n OutOfMemory not = absurd not
 
 -- the error that is handed on
 pub handed : {T : Type 0} (P : MergeFault → Type 0) (r : Result T MergeFault) (e : MergeFault) → (y : MergeFault) × (r ≡ Err y) × (y ≡ e) → P e → IfErr r P

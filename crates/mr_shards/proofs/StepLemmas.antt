@@ -234,8 +234,8 @@ step-of job at old new line b r =
       back = b.back;
       was = b.is;
       now = r.set ∙ ap (λ (xs : List Cursor). set xs at r.next) b.is ∙ set_at b.front b.one b.back r.next at b.place;
-      left_one = ap (λ (o : Option Line). headed o (map (shifted_group b.one.before) (groups_in job b.one.rest.now))) b.head
-          ∙ ap (λ (gs : List Group). group_of line ∷ gs) (sym (r.left ∙ ap (λ (c : Cursor). map (shifted_group c.before) (groups_in job c.rest.now)) same));
+      left_one = ap (λ (o : Option Line). headed o (map (shifted_group b.one.held.before) (groups_in job b.one.rest.now))) b.head
+          ∙ ap (λ (gs : List Group). group_of line ∷ gs) (sym (r.left ∙ ap (λ (c : Cursor). map (shifted_group c.held.before) (groups_in job c.rest.now)) same));
       head = b.head;
       past = b.past;
       not_before = b.not_before;
@@ -258,7 +258,7 @@ module _ (job : JobSpec) (old new : List Cursor) (line : Line) (s : Step job old
   step-stands_one : Stands job s.next → Stands job s.one
   step-stands_one h = record {
     rest = s.behind h.rest;
-    in_order = subst NoneFalls (sym s.left_one) (none-before_line line s.next.head (map (shifted_group s.next.before) (groups_in job s.next.rest.now)) s.order h.in_order, h.in_order);
+    in_order = subst NoneFalls (sym s.left_one) (none-before_line line s.next.head (map (shifted_group s.next.held.before) (groups_in job s.next.rest.now)) s.order h.in_order, h.in_order);
   }
 
   pub step-stands : AllByRecursion (Stands job) new → AllByRecursion (Stands job) old
@@ -271,7 +271,7 @@ module _ (job : JobSpec) (old new : List Cursor) (line : Line) (s : Step job old
 
   apart-all : (cs : List Cursor) → AllByRecursion (λ c. Past line c.head) cs → AllByRecursion (Stands job) cs → AllByRecursion (AllByRecursion (λ h. h.key ≡ line.key.now → ⊥)) (map (left job) cs)
   apart-all [] p h = tt
-  apart-all (c ∷ cs) p h = (none-equal line c.head (map (shifted_group c.before) (groups_in job c.rest.now)) p.0 h.0.in_order, apart-all cs p.1 h.1)
+  apart-all (c ∷ cs) p h = (none-equal line c.head (map (shifted_group c.held.before) (groups_in job c.rest.now)) p.0 h.0.in_order, apart-all cs p.1 h.1)
 
   none_before-past : (cs : List Cursor) → AllByRecursion (λ c. Past line c.head) cs → AllByRecursion (λ c. NotBefore line c.head) cs
   none_before-past cs p = all-map (λ (c : Cursor). Past line c.head) (λ (c : Cursor). NotBefore line c.head) cs (λ c q. one c.head q) p
@@ -282,7 +282,7 @@ module _ (job : JobSpec) (old new : List Cursor) (line : Line) (s : Step job old
 
   none_before-all : (cs : List Cursor) → AllByRecursion (λ c. NotBefore line c.head) cs → AllByRecursion (Stands job) cs → AllByRecursion (NoneBefore line.key.now) (map (left job) cs)
   none_before-all [] p h = tt
-  none_before-all (c ∷ cs) p h = (none-before_line line c.head (map (shifted_group c.before) (groups_in job c.rest.now)) p.0 h.0.in_order, none_before-all cs p.1 h.1)
+  none_before-all (c ∷ cs) p h = (none-before_line line c.head (map (shifted_group c.held.before) (groups_in job c.rest.now)) p.0 h.0.in_order, none_before-all cs p.1 h.1)
 
   pub step-pull : AllByRecursion (Stands job) new → merged_groups (map (left job) old) ≡ with_group (group_of line) (merged_groups (map (left job) new))
   step-pull all =

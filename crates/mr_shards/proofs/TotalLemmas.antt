@@ -14,18 +14,8 @@ use Rattle.mr_shards.specs.Cursors.{left, Goes}
 use Rattle.mr_shards.specs.Refused.{Overflows, total_of, values_among, values_with}
 use Rattle.mr_shards.specs.Outputs.{parts_in}
 use Rattle.mr_shards.specs.Portions.{Shift, behind, no_shift, past_shard, shifted_group, shifted_parts, shifted_value}
+use Rattle.mr_shards.specs.Rounds.{IsWithin, one_of, waits_with}
 use Rattle.mr_shards.proofs.StepLemmas.{Step}
-
--- the values that one group has for a key
-abbrev pub one_of : List ℕ → Group → ℕ
-one_of key g = cond (bytes_eq g.key key) (length g.values) 0
-
-abbrev pub waits_with : List ℕ → Option Group → ℕ
-waits_with key None = 0
-waits_with key (Some w) = one_of key w
-
-abbrev pub IsWithin : JobSpec → List ShardText → List Cursor → Option Group → Type 0
-IsWithin job outputs cursors waiting = (key : List ℕ) → waits_with key waiting + values_among key (map (left job) cursors) ≤ total_of job outputs key
 
 -- ---- sums
 
@@ -58,8 +48,8 @@ among-shifted key job s (o ∷ os) =
     ap (λ k. k + values_among key (shifted_parts next (parts_in job os))) (with-shifted key s (groups_in job o.text.now))
     ∙ ap (λ k. values_with key (groups_in job o.text.now) + k) (among-shifted key job next os)
 
-pub within-first : (job : JobSpec) (outputs : List ShardText) (cs : List Cursor) → map (left job) cs ≡ shifted_parts no_shift (parts_in job outputs) → IsWithin job outputs cs None
-within-first job outputs cs lefts key = omega (arith, ap (values_among key) lefts, among-shifted key job no_shift outputs)
+pub within-first : (job : JobSpec) (outputs : List ShardText) (gss : List (List Group)) → gss ≡ shifted_parts no_shift (parts_in job outputs) → IsWithin job outputs gss None
+within-first job outputs gss lefts key = omega (arith, ap (values_among key) lefts, among-shifted key job no_shift outputs)
 
 -- ---- a line that goes in
 
@@ -95,7 +85,7 @@ goes-within job (Some w) g next old new key (inl h) =
 goes-within job (Some w) g next old new key (inr h) = omega (arith, ap (one_of key) h.0)
 
 pub within-step : (job : JobSpec) (outputs : List ShardText) (old new : List Cursor) (waiting : Option Group) (line : Line) (next : Group) (out out' : List ℕ)
-    → Step job old new line → Goes job waiting (group_of line) next out out' → IsWithin job outputs old waiting → IsWithin job outputs new (Some next)
+    → Step job old new line → Goes job waiting (group_of line) next out out' → IsWithin job outputs (map (left job) old) waiting → IsWithin job outputs (map (left job) new) (Some next)
 within-step job outputs old new waiting line next out out' s g few key =
     omega (arith, few key, among-step job old new line key s, goes-within job waiting (group_of line) next out out' key g)
 
@@ -104,7 +94,7 @@ within-step job outputs old new waiting line next out out' s g few key =
 one-own : (g : Group) (key : List ℕ) → g.key ≡ key → one_of key g ≡ length g.values
 one-own g key same = ap (λ b. cond b (length g.values) 0) (ap (λ (k : List ℕ). bytes_eq k key) same ∙ bytes_eq-same key)
 
-pub too-large : (job : JobSpec) (outputs : List ShardText) (old new : List Cursor) (waiting : Option Group) (line : Line) → Step job old new line → IsWithin job outputs old waiting
+pub too-large : (job : JobSpec) (outputs : List ShardText) (old new : List Cursor) (waiting : Option Group) (line : Line) → Step job old new line → IsWithin job outputs (map (left job) old) waiting
     → Overflows waiting (group_of line) → (key : List ℕ) × (2 ^ 64 ≤ total_of job outputs key)
 too-large job outputs old new None line s few o = absurd o
 too-large job outputs old new (Some w) line s few o =

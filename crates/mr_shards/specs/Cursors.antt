@@ -1,17 +1,22 @@
 -- Where a merge stands in the outputs of shards.
-use Rattle.std.specs.Prelude.{◌≡◌, ◌⊎◌, ℕ, ◌+◌, false, if◌then◌else◌, List, [], ◌∷◌, ◌++◌, Option, None, Some, IfSome, length, map, slice_index_or, slice_set}
+use Rattle.std.specs.Prelude.{◌≡◌, ◌⊎◌, ℕ, ◌+◌, ◌≤◌, ◌^◌, ◌%◌, nat_lt, is_none, Bool, ◌&&◌, true, false, if◌then◌else◌, List, [], ◌∷◌, ◌++◌, Option, None, Some, IfSome, length, map, slice_index_or, slice_set}
 use Rattle.std.specs.List.{AllByRecursion}
 use Rattle.std.specs.Ordering.{is_lt}
 use Rattle.std.specs.declared.cmp.Ordering.TheVariants.{Less}
 use Rattle.mr_bytes.specs.Order.{key_order}
 use Rattle.mr_jobs.specs.JobSpec.{JobSpec}
 use Rattle.mr_group.specs.FirstBytes.{AreBytes, first_bytes}
+use Rattle.mr_bytes.specs.Cut.{Lacks}
+use Rattle.mr_jobs.specs.JobSpec.{WordCount, LinesWith, Resources, InvertedIndex}
 use Rattle.mr_shards.specs.declared.cursor.Cursor.{Cursor}
+use Rattle.mr_shards.specs.declared.cursor.Held.{Held}
+use Rattle.mr_shards.specs.declared.line.Tally.{Tally}
+use Rattle.mr_shards.specs.declared.line.Tally.TheVariants.{Total, Place, Files}
 use Rattle.mr_shards.specs.declared.line.Line.{Line}
 use Rattle.mr_shards.specs.Merged.{Group, group_text, joined, with_group}
 use Rattle.mr_shards.specs.Lines.{groups_in, joins}
 use Rattle.mr_shards.specs.declared.merger.MergeFault.{MergeFault}
-use Rattle.mr_shards.specs.Refused.{BlamesOnly, IsReadOf, IsRestOf, last_key}
+use Rattle.mr_shards.specs.Refused.{BlamesOnly, Follows, IsReadOf, IsReadTo, IsRest, IsRestOf, MayFollow, TellsFiles, last_key, lines_read}
 use Rattle.mr_shards.specs.Portions.{shifted_group}
 use Rattle.mr_shards.specs.Views.{group_of, IsFor}
 
@@ -27,7 +32,57 @@ headed (Some l) gs = group_of l ∷ gs
 
 -- what is left of a shard's output
 abbrev pub left : JobSpec → Cursor → List Group
-left job c = headed c.head (map (shifted_group c.before) (groups_in job c.rest.now))
+left job c = headed c.head (map (shifted_group c.held.before) (groups_in job c.rest.now))
+
+-- with more bytes behind its window
+abbrev pub on : Cursor → List ℕ → Cursor
+on c more = record {
+  head = c.head;
+  text = record { ref_ptr = (0, 0); now = c.text.now ++ more };
+  rest = record { ref_ptr = (0, 0); now = c.rest.now ++ more };
+  held = c.held;
+  is_last = c.is_last;
+}
+
+-- nothing comes behind the last window
+abbrev pub MayGoOn : Bool → List ℕ → Type 0
+MayGoOn is_last more = is_last ≡ true → more ≡ []
+
+-- ---- what is held
+
+-- the pairs that a line states, and those of a line of each group; an index has none
+abbrev pub pairs_told : Tally → ℕ
+pairs_told (Total n) = n
+pairs_told (Place file offset) = 1
+pairs_told (Files list last moved) = 0
+
+abbrev pub pairs_in : JobSpec → Group → ℕ
+pairs_in (WordCount keep_case) g = length g.values
+pairs_in (LinesWith literal fold) g = length g.values
+pairs_in Resources g = length g.values
+pairs_in (InvertedIndex keep_case) g = 0
+
+unfoldable pub all_pairs : JobSpec → List Group → ℕ
+all_pairs job [] = 0
+all_pairs job (g ∷ gs) = pairs_in job g + all_pairs job gs
+
+-- the sum, where it fits
+abbrev pub with_pairs : Option ℕ → ℕ → Option ℕ
+with_pairs None n = None
+with_pairs (Some m) n = if nat_lt (m + n) (2 ^ 64) then Some (m + n) else None
+
+-- what is held behind the head
+abbrev pub passed_with : Option Line → Held → Held
+passed_with None h = h
+passed_with (Some l) h = record { before = h.before; count = h.count; lines = (h.lines + 1) % 2 ^ 64; pairs = with_pairs h.pairs (pairs_told l.tally) }
+
+abbrev pub passed : Cursor → Held
+passed c = passed_with c.head c.held
+
+-- those of the lines that were taken and those of the lines to come are those of all; or 64 bits don't hold these
+abbrev pub IsSum : JobSpec → Option ℕ → List Group → List Group → Type 0
+IsSum job None left all = 2 ^ 64 ≤ all_pairs job all
+IsSum job (Some n) left all = n + all_pairs job left ≡ all_pairs job all
 
 -- of two lines the one with the lesser key, and of equal keys the first
 abbrev pub lesser : Option (ℕ × Line) → ℕ → Option Line → Option (ℕ × Line)
@@ -80,11 +135,6 @@ abbrev pub AreBehind : Option (ℕ × Line) → List Cursor → Type 0
 AreBehind None cs = Unit {0}
 AreBehind (Some b) cs = HasFront b.1 × AreBeyond b.0 b.1 cs
 
--- the line is one of the job's
-abbrev pub IsLineFor : JobSpec → Option Line → Type 0
-IsLineFor job None = Unit {0}
-IsLineFor job (Some l) = IsFor job l.tally
-
 -- the next line is one of the job's, and there is one where bytes are left
 abbrev pub IsHead : JobSpec → Option Line → List ℕ → Type 0
 IsHead job None rest = rest ≡ []
@@ -94,9 +144,9 @@ abbrev pub IsHeadFor : JobSpec → Cursor → Type 0
 IsHeadFor job c = IsHead job c.head c.rest.now
 
 -- the line is not joined to the one that waits: it has another key, or the job has a line for each value
-abbrev pub StaysApart : JobSpec → Option Line → Line → Type 0
+abbrev pub StaysApart : JobSpec → Option Group → Line → Type 0
 StaysApart job None line = Unit {0}
-StaysApart job (Some w) line = (w.key.now ≡ line.key.now → ⊥) ⊎ (joins job ≡ false)
+StaysApart job (Some w) line = (w.key ≡ line.key.now → ⊥) ⊎ (joins job ≡ false)
 
 -- a group is taken behind the one that waits: both are one, of one key; or the one that waited is written, and it stays apart
 abbrev pub Goes : JobSpec → Option Group → Group → Group → List ℕ → List ℕ → Type 0
@@ -110,21 +160,66 @@ abbrev pub with_waiting : Option Group → List Group → List Group
 with_waiting None gs = gs
 with_waiting (Some w) gs = with_group w gs
 
+-- the line of the head is whole in the window, and the rest is behind it
+pub record IsWholeHead (job : JobSpec) (c : Cursor) (l : Line) : Type 0 where
+  pub kind : IsFor job l.tally
+  pub front : HasFront l
+  pub line : List ℕ
+  pub clear : Lacks 10 line
+  pub text_is : c.text.now ≡ line ++ 10 ∷ c.rest.now
+
+-- without a head the last window is at its end
+abbrev pub IsHeadOf : JobSpec → Cursor → Option Line → Type 0
+IsHeadOf job c None = (c.is_last ≡ true) × (c.text.now ≡ []) × (c.rest.now ≡ [])
+IsHeadOf job c (Some l) = IsWholeHead job c l
+
+abbrev pub AreEnded : List Cursor → Type 0
+AreEnded cs = AllByRecursion (λ c. c.head ≡ None) cs
+
+abbrev pub are_ended : List Cursor → Bool
+are_ended [] = true
+are_ended (c ∷ cs) = is_none c.head && are_ended cs
+
+abbrev pub HeadFollows : JobSpec → Option (List ℕ) → Option Line → Type 0
+HeadFollows job last None = Unit {0}
+HeadFollows job last (Some l) = MayFollow job last l.key.now
+
+-- the cursor is at the first line of the text, behind what is held
+pub record IsAtLine (job : JobSpec) (h : Held) (text : List ℕ) (c : Cursor) : Type 0 where
+  pub left_is : left job c ≡ map (shifted_group h.before) (groups_in job text)
+  pub kind : IsHead job c.head c.rest.now
+  pub first : (last : Option (List ℕ)) → Follows job last text → HeadFollows job last c.head
+  pub follows : (last : Option (List ℕ)) → HeadFollows job last c.head → Follows job last text
+  pub read : (whole : List ℕ) (last : Option (List ℕ)) → IsReadTo job whole last text h.lines → HeadFollows job last c.head → IsReadOf job whole c
+  pub stands : IsRest job None text → TellsFiles job h.count text → IsRestOf job c
+  pub behind : (last : Option (List ℕ)) → HeadFollows job last c.head → IsRestOf job c → IsRest job last text × TellsFiles job h.count text
+
+-- whatever comes behind the window, the cursor is at its first line
+pub record IsOpen (job : JobSpec) (h : Held) (text : List ℕ) (is_last : Bool) (c : Cursor) : Type 0 where
+  pub held : c.held ≡ h
+  pub text_is : c.text.now ≡ text
+  pub last : c.is_last ≡ is_last
+  pub head : IsHeadOf job c c.head
+  pub at : (more : List ℕ) → MayGoOn is_last more → IsAtLine job h (text ++ more) (on c more)
+
+-- the next line was read, and comes in turn
+pub record IsAdvanced (job : JobSpec) (old new : Cursor) : Type 0 where
+  pub opened : IsOpen job (passed old) old.rest.now old.is_last new
+  pub turn : HeadFollows job (last_key old.head) new.head
+
+-- a line of the cursor's shard is blamed, or none
+abbrev pub BlamesNext : JobSpec → ℕ → Cursor → MergeFault → Type 0
+BlamesNext job at c e = BlamesOnly job at c.held.count c.held.before (last_key c.head) c.rest.now (lines_read c) e
+
 -- one of the cursors is at its next line
 pub record ReadsOn (job : JobSpec) (at : ℕ) (old new : List Cursor) : Type 0 where
   pub one : Cursor
   pub next : Cursor
   pub was : slice_index_or old at one ≡ one
   pub set : new ≡ slice_set old at next
-  pub left : left job next ≡ map (shifted_group one.before) (groups_in job one.rest.now)
+  pub left : left job next ≡ map (shifted_group one.held.before) (groups_in job one.rest.now)
   pub kind : IsHeadFor job next
   pub order : IfSome next.head (λ l. DoesNotFall one.head l)
   pub behind : IsRestOf job next → IsRestOf job one
   pub read : (text : List ℕ) → IsReadOf job text one → IsReadOf job text next
-  pub files : (next.before ≡ one.before) × (next.count ≡ one.count)
-
--- a line of the cursor's shard is blamed, or none
-pub record BlamesAt (job : JobSpec) (at : ℕ) (cs : List Cursor) (e : MergeFault) : Type 0 where
-  pub one : Cursor
-  pub is : slice_index_or cs at one ≡ one
-  pub blames : BlamesOnly job at one.count one.before (last_key one.head) one.rest.now one.lines e
+  pub files : (next.held.before ≡ one.held.before) × (next.held.count ≡ one.held.count)

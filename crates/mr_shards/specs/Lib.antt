@@ -3,10 +3,9 @@ pub mod Judged
 pub mod Lines
 pub mod Merged
 pub mod Outputs
-pub mod Pieces
+pub mod Rounds
 pub mod Refused
 pub mod Views
-pub mod Places
 pub mod Laws
 pub mod Verdict
 pub mod Reading

@@ -24,20 +24,6 @@ pub record Stands (job : JobSpec) (c : Cursor) : Type 0 where
   pub rest : IsRestOf job c
   pub in_order : NoneFalls (left job c)
 
--- where what is left of each output stands, so does the whole output
-abbrev pub AreOpened : JobSpec → List Cursor → List ShardText → Type 0
-AreOpened job [] [] = Unit {0}
-AreOpened job [] (o ∷ os) = ⊥
-AreOpened job (c ∷ cs) [] = ⊥
-AreOpened job (c ∷ cs) (o ∷ os) = (Stands job c → IsShardText job o) × AreOpened job cs os
-
--- the cursors stand at the first lines of the outputs
-pub record AreAtFirst (job : JobSpec) (cs : List Cursor) (os : List ShardText) : Type 0 where
-  pub kinds : AllByRecursion (IsHeadFor job) cs
-  pub opened : AreOpened job cs os
-  pub read : AreRead job cs os
-  pub lefts : map (left job) cs ≡ shifted_parts no_shift (parts_in job os)
-
 -- what a judge's yes says of a shard, with the limits of its input: the left-out records exist, and its pairs, its files
 -- and their bytes can be counted
 pub record IsJudged (request : RequestSpec) (s : Portion) : Type 0 where

@@ -19,7 +19,7 @@ use Rattle.mr_shards.specs.declared.merger.ShardText.{ShardText}
 use Rattle.mr_shards.specs.Merged.{Group, group_text, texts}
 use Rattle.mr_shards.specs.Lines.{groups_in, joins}
 use Rattle.mr_shards.specs.Portions.{Shift, behind, no_shift, past_shard, shifted_start}
-use Rattle.mr_shards.specs.Views.{IsParsed, values_of, values_waiting}
+use Rattle.mr_shards.specs.Views.{IsParsed, values_of}
 
 -- a key may stand behind the last one: where a key has one line it is greater, and else not less
 abbrev pub MayFollow : JobSpec → Option (List ℕ) → List ℕ → Type 0
@@ -62,7 +62,7 @@ abbrev pub IsShardText : JobSpec → ShardText → Type 0
 IsShardText job o = IsRest job None o.text.now × TellsFiles job o.files.count o.text.now
 
 abbrev pub IsRestOf : JobSpec → Cursor → Type 0
-IsRestOf job c = IsRest job (last_key c.head) c.rest.now × TellsFiles job c.count c.rest.now
+IsRestOf job c = IsRest job (last_key c.head) c.rest.now × TellsFiles job c.held.count c.rest.now
 
 -- the key of the last of the groups, or the one before them
 abbrev pub last_of : Option (List ℕ) → List Group → Option (List ℕ)
@@ -79,8 +79,16 @@ pub record IsReadTo (job : JobSpec) (text : List ℕ) (last : Option (List ℕ))
   pub last_is : (rest ≡ [] → ⊥) → last_of None groups ≡ last
   pub number_is : number ≡ length groups % 2 ^ 64
 
+-- how many lines were read: those that were taken, and the next one
+abbrev pub lines_with : Option Line → ℕ → ℕ
+lines_with None lines = lines
+lines_with (Some l) lines = (lines + 1) % 2 ^ 64
+
+abbrev pub lines_read : Cursor → ℕ
+lines_read c = lines_with c.head c.held.lines
+
 abbrev pub IsReadOf : JobSpec → List ℕ → Cursor → Type 0
-IsReadOf job text c = IsReadTo job text (last_key c.head) c.rest.now c.lines
+IsReadOf job text c = IsReadTo job text (last_key c.head) c.rest.now (lines_read c)
 
 -- no line of the job that may follow stands in front of the text
 abbrev pub NoLineFollows : JobSpec → Option (List ℕ) → List ℕ → Type 0
@@ -135,6 +143,10 @@ IsUnmoved at count before (Total n) e = ⊥
 IsUnmoved at count before (Place file offset) e = IsBadPlace at count before e file offset
 IsUnmoved at count before (Files list last moved) e = IsBadPlace at count before e last 0
 
+-- the first line of the text, if it begins with one, may follow
+abbrev pub Follows : JobSpec → Option (List ℕ) → List ℕ → Type 0
+Follows job last text = (g : Group) (more : List ℕ) → IsLineOf job g → text ≡ group_text job g ++ more → MayFollow job last g.key
+
 -- behind lines of the job stands one that tells such a place
 pub record TellsPlace (job : JobSpec) (text : List ℕ) (is_so : ℕ → ℕ → Type 0) : Type 0 where
   pub before : List Group
@@ -162,14 +174,14 @@ abbrev pub Overflows : Option Group → Group → Type 0
 Overflows None g = ⊥
 Overflows (Some w) g = (w.key ≡ g.key) × (2 ^ 64 ≤ length w.values + length g.values)
 
--- a line is not joined to those of its key: only where a total doesn't fit
-abbrev pub IsUnjoined : Tally → List Value → Tally → MergeFault → Type 0
-IsUnjoined first places more (BadLine shard line) = ⊥
-IsUnjoined first places more TotalTooLarge = 2 ^ 64 ≤ length (values_waiting first places) + length (values_of more)
-IsUnjoined first places more TooManyFiles = ⊥
-IsUnjoined first places more (NoSuchFile shard) = ⊥
-IsUnjoined first places more PlaceTooFar = ⊥
-IsUnjoined first places more OutOfMemory = Unit {0}
+-- the values of a line are not added to what waits: only where there is a total and both don't fit
+abbrev pub IsUnadded : ℕ → Tally → MergeFault → Type 0
+IsUnadded total more (BadLine shard line) = ⊥
+IsUnadded total more TotalTooLarge = (0 < total) × (2 ^ 64 ≤ total + length (values_of more))
+IsUnadded total more TooManyFiles = ⊥
+IsUnadded total more (NoSuchFile shard) = ⊥
+IsUnadded total more PlaceTooFar = ⊥
+IsUnadded total more OutOfMemory = Unit {0}
 
 -- no line is blamed, and a total only where it doesn't fit
 abbrev pub TakesNot : Option Group → Group → MergeFault → Type 0
@@ -216,7 +228,7 @@ Blames job os OutOfMemory = Unit {0}
 
 -- what was read of that output, and how its places are moved
 abbrev pub IsReadAt : JobSpec → List ShardText → ℕ → Cursor → Type 0
-IsReadAt job os i c = IsReadOf job (text_at os i) c × (c.before ≡ shift_before os i) × (c.count ≡ count_at os i)
+IsReadAt job os i c = IsReadOf job (text_at os i) c × (c.held.before ≡ shift_before os i) × (c.held.count ≡ count_at os i)
 
 -- and of each
 abbrev pub AreRead : JobSpec → List Cursor → List ShardText → Type 0

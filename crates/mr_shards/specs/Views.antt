@@ -1,5 +1,5 @@
 -- How clauses see lines and cursors.
-use Rattle.std.specs.Prelude.{◌≡◌, ℕ, ◌+◌, ◌<◌, ◌^◌, List, [], ◌∷◌, ◌++◌, Option, None, Some, map, replicate, decimal}
+use Rattle.std.specs.Prelude.{Bool, true, false, ◌≡◌, ℕ, ◌+◌, ◌<◌, ◌^◌, List, [], ◌∷◌, ◌++◌, Option, None, Some, map, replicate, decimal}
 use Rattle.mr_bytes.specs.declared.Value.{Value}
 use Rattle.mr_bytes.specs.declared.Value.TheVariants.{One, At}
 use Rattle.mr_jobs.specs.JobSpec.{JobSpec, WordCount, LinesWith, Resources, InvertedIndex}
@@ -74,21 +74,30 @@ IsUnshifted (Files list last moved) = (moved ≡ no_shift) × IsListTo last list
 
 -- ---- what waits
 
--- of an index the places of all lines of the key, and else those of the one line
-abbrev pub values_waiting : Tally → List Value → List Value
-values_waiting (Total n) places = replicate n One
-values_waiting (Place file offset) places = At file offset ∷ []
-values_waiting (Files list last moved) places = places
+-- a key, if there is one, with its total, 0 where its places are listed, and these
+pub record Waits : Type 0 where
+  pub some : Bool
+  pub key : List ℕ
+  pub total : ℕ
+  pub places : List Value
 
-abbrev pub waiting_group : Line → List Value → Group
-waiting_group l places = record { key = l.key.now; values = values_waiting l.tally places }
+abbrev pub nothing_waits : Waits
+nothing_waits = record { some = false; key = []; total = 0; places = [] }
 
-abbrev pub waits : Option Line → List Value → Option Group
-waits None places = None
-waits (Some l) places = Some (waiting_group l places)
+-- the group that waits
+abbrev pub waiting_group : Waits → Group
+waiting_group w = record { key = w.key; values = replicate w.total One ++ w.places }
 
--- the places of a line of an index are added to those that wait
-abbrev pub IsAdded : Tally → List Value → List Value → Type 0
-IsAdded (Total n) old new = Unit {0}
-IsAdded (Place file offset) old new = Unit {0}
-IsAdded (Files list last moved) old new = new ≡ old ++ map (shifted_value moved) (places_in (numbers_in list.now))
+abbrev pub waits_if : Bool → Group → Option Group
+waits_if false g = None
+waits_if true g = Some g
+
+abbrev pub waits : Waits → Option Group
+waits w = waits_if w.some (waiting_group w)
+
+-- of a job that counts no places wait, and of another one no total
+abbrev pub IsWaitingFor : JobSpec → Waits → Type 0
+IsWaitingFor (WordCount keep_case) w = w.places ≡ []
+IsWaitingFor (LinesWith literal fold) w = w.total ≡ 0
+IsWaitingFor Resources w = w.places ≡ []
+IsWaitingFor (InvertedIndex keep_case) w = w.total ≡ 0

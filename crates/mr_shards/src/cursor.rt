@@ -10,35 +10,115 @@
 //! Invariant: the keys of a shard's lines rise, and those of places do not fall. Where they do
 //! not, the line is a `BadLine`, numbered from 0.
 //! Cost: a look at each shard's head a line. Many shards are better merged in groups first.
-ghost use Rattle.std.specs.Prelude.{◌≡◌, ℕ, List, IfOk, IfSome, IsTrue, MatchOption, Some, map};
-ghost use Rattle.std.specs.Prelude.{None, ◌↔◌, IfErr};
-ghost use Rattle.mr_shards.specs.Lines.{groups_in};
+ghost use Rattle.std.specs.Prelude.{◌≡◌, ℕ, ◌++◌, List, IfOk, IfSome, IsTrue, MatchOption, Some};
+ghost use Rattle.std.specs.Prelude.{None, ◌↔◌, IfErr, false};
 ghost use Rattle.std.specs.List.{AllByRecursion};
 ghost use Rattle.std.specs.Ordering.{is_lt};
+ghost use Rattle.mr_bytes.specs.Cut.{Lacks};
 ghost use Rattle.mr_bytes.specs.Order.{key_order};
-ghost use Rattle.mr_shards.specs.Cursors.{AreBeyond, AreBehind, Differs, DoesNotFall, HasFront};
-ghost use Rattle.mr_shards.specs.Cursors.{IsFound, IsFronted, IsHeadFor, left, least_from, lesser};
-ghost use Rattle.mr_shards.specs.Portions.{shifted_group};
-ghost use Rattle.mr_shards.specs.Refused.{BlamesOnly, IsReadOf, IsRestOf, MayFollow, last_key};
+ghost use Rattle.mr_shards.specs.Cursors.{AreBeyond, AreBehind, BlamesNext, Differs, DoesNotFall};
+ghost use Rattle.mr_shards.specs.Cursors.{HasFront, IsAdvanced, IsFound, IsFronted, IsOpen, MayGoOn};
+ghost use Rattle.mr_shards.specs.Cursors.{least_from, lesser, on, pairs_told, passed};
+ghost use Rattle.mr_shards.specs.Refused.{BlamesOnly, MayFollow, last_key};
 
-use crate::line::{Line, first_line, moved};
+use crate::line::{Line, Tally, cut_first, moved, parse_line};
 use crate::merger::MergeFault;
 use crate::shift::Shift;
 use mr_bytes::compare_keys;
 use mr_jobs::Job;
 use std::cmp::Ordering;
 
-/// A shard's output, partly merged: its next line, with its place moved, and the rest.
+/// What was taken of a shard's output. `before` is how far its places move, and `count` how many
+/// files it has; `lines` counts modulo 2^64, and there are no `pairs` if 64 bits don't hold them.
+#[derive(Clone, Copy)]
+pub(crate) struct Held {
+    pub before: Shift,
+    pub count: u32,
+    pub lines: u64,
+    pub pairs: Option<u64>,
+}
+
+/// A shard's output, partly merged. `text` begins with the head's line, `rest` is behind it; both
+/// end where the window does. What is held is what was taken before the head.
 #[derive(Clone, Copy)]
 pub(crate) struct Cursor<'a> {
     pub head: Option<Line<'a>>,
+    pub text: &'a [u8],
     pub rest: &'a [u8],
-    /// How far the shard's places move.
-    pub before: Shift,
-    /// How many files the shard has.
-    pub count: u32,
-    /// How many lines were read, modulo 2^64.
-    pub lines: u64,
+    pub held: Held,
+    pub is_last: bool,
+}
+
+/// How many pairs a line states; an index has none.
+fn pairs_of(tally: Tally<'_>) -> u64
+    ensures { result ≡ pairs_told tally.entry }
+{
+    match tally {
+        Tally::Total(total) => total,
+        Tally::Place { .. } => 1,
+        Tally::Files { .. } => 0,
+    }
+}
+
+/// What is held once the head is taken.
+fn held_behind(cursor: &Cursor<'_>) -> Held
+    ensures { result ≡ passed cursor.now }
+{
+    let held = cursor.held;
+    let Some(line) = cursor.head else {
+        return held;
+    };
+    let pairs = match held.pairs {
+        Some(pairs) => pairs.checked_add(pairs_of(line.tally)),
+        None => None,
+    };
+    Held {
+        lines: held.lines.wrapping_add(1),
+        pairs,
+        ..held
+    }
+}
+
+/// Reads the line at the front of a window that begins behind what is held. None if it isn't whole
+/// yet; a cursor without a head at the end of the last window. Tests no order.
+pub(crate) fn read_line<'a>(
+    job: &Job,
+    shard: usize,
+    held: Held,
+    text: &'a [u8],
+    is_last: bool,
+) -> Result<Option<Cursor<'a>>, MergeFault>
+    ensures some { IfOk result (λ o. IfSome o (IsOpen job.now held text.entry.now is_last)) }
+    ensures none { IfOk result (λ o. o ≡ None → Lacks 10 text.entry.now × (is_last ≡ false)) }
+    ensures err { IfErr result (λ e. (more : List ℕ) → MayGoOn is_last more
+        → BlamesOnly job.now shard held.count held.before None (text.entry.now ++ more) held.lines e) }
+{
+    let end = Cursor {
+        head: None,
+        text,
+        rest: text,
+        held,
+        is_last,
+    };
+    if is_last && text.is_empty() {
+        return Ok(Some(end));
+    }
+    let bad = MergeFault::BadLine {
+        shard,
+        line: held.lines,
+    };
+    let Some((line, rest)) = cut_first(text, b'\n') else {
+        return if is_last { Err(bad) } else { Ok(None) };
+    };
+    let Some(line) = parse_line(job, line) else {
+        return Err(bad);
+    };
+    let line = moved(line, shard, held.count, held.before)?;
+    Ok(Some(Cursor {
+        head: Some(line),
+        rest,
+        ..end
+    }))
 }
 
 /// Keys rise strictly; those of places don't fall. `front` decides where it differs.
@@ -61,50 +141,31 @@ fn may_follow(job: &Job, last: Option<Line<'_>>, line: Line<'_>) -> bool
     }
 }
 
-/// Reads the next line.
-pub(crate) fn advanced<'a>(
+/// Reads the line behind the head. None if it isn't whole yet.
+pub(crate) fn advance<'a>(
     job: &Job,
     shard: usize,
     cursor: Cursor<'a>,
-) -> Result<Cursor<'a>, MergeFault>
+) -> Result<Option<Cursor<'a>>, MergeFault>
     requires { IsFronted cursor.head }
-    ensures left { IfOk result (λ n. left job.now n
-        ≡ map (shifted_group cursor.entry.before) (groups_in job.now cursor.entry.rest.now)) }
-    ensures files { IfOk result (λ n. (n.before ≡ cursor.entry.before) × (n.count ≡ cursor.entry.count)) }
-    ensures kind { IfOk result (IsHeadFor job.now) }
-    ensures order { IfOk result (λ n. IfSome n.head (λ l. DoesNotFall cursor.entry.head l)) }
-    ensures behind { IfOk result (λ n. IsRestOf job.now n → IsRestOf job.now cursor.entry) }
-    ensures read { IfOk result (λ n. (text : List ℕ) → IsReadOf job.now text cursor.entry → IsReadOf job.now text n) }
-    ensures err { IfErr result (BlamesOnly job.now shard cursor.entry.count
-        cursor.entry.before (last_key cursor.entry.head) cursor.entry.rest.now cursor.entry.lines) }
+    ensures some { IfOk result (λ o. IfSome o (IsAdvanced job.now cursor.entry)) }
+    ensures none { IfOk result (λ o. o ≡ None → Lacks 10 cursor.entry.rest.now × (cursor.entry.is_last ≡ false)) }
+    ensures err { IfErr result (λ e. (more : List ℕ) → MayGoOn cursor.entry.is_last more
+        → BlamesNext job.now shard (on cursor.entry more) e) }
 {
-    if cursor.rest.is_empty() {
-        return Ok(Cursor {
-            head: None,
-            rest: cursor.rest,
-            before: cursor.before,
-            count: cursor.count,
-            lines: cursor.lines,
-        });
-    }
-    let bad = MergeFault::BadLine {
-        shard,
-        line: cursor.lines,
+    let held = held_behind(&cursor);
+    let Some(next) = read_line(job, shard, held, cursor.rest, cursor.is_last)? else {
+        return Ok(None);
     };
-    let Some((line, rest)) = first_line(job, cursor.rest) else {
-        return Err(bad);
-    };
-    let line = moved(line, shard, cursor.count, cursor.before)?;
-    if !may_follow(job, cursor.head, line) {
-        return Err(bad);
+    if let Some(line) = next.head {
+        if !may_follow(job, cursor.head, line) {
+            return Err(MergeFault::BadLine {
+                shard,
+                line: held.lines,
+            });
+        }
     }
-    Ok(Cursor {
-        head: Some(line),
-        rest,
-        before: cursor.before,
-        count: cursor.count,
-        lines: cursor.lines.wrapping_add(1),
-    })
+    Ok(Some(next))
 }
 
 /// Whether a line's key is less. `front` decides where it differs; else most keys are equal.

@@ -9,7 +9,6 @@ mod file_numbers;
 mod joining;
 mod line;
 mod merger;
-mod piece;
 mod portions;
 mod ranges;
 mod reading;
@@ -17,7 +16,6 @@ mod shift;
 mod spots;
 mod verdict;
 mod waiting;
-mod window;
 
 ghost use Rattle.mr_shards.specs.Judged.{GoodIsJudged, StretchIsTrue};
 ghost use Rattle.mr_shards.specs.Lines.{OneReading};
@@ -26,7 +24,7 @@ ghost use Rattle.mr_shards.specs.Laws.{OneText};
 pub use file_numbers::index_law;
 pub use joining::{JoinFault, first_repeat, join_verdicts, joined_law};
 pub use line::{cut_first, cut_last, number_of};
-pub use merger::{MergeFault, Merger, ShardText, merge_parts};
+pub use merger::{MergeFault, Merger, ShardText, Window, merge_parts};
 pub use portions::{left_out_law, lines_law, portions_law, worked_law};
 pub use ranges::{FileRange, Gap, first_gap, goes_on, ranges_law, tile_law};
 pub use reading::read_verdict;
@@ -36,7 +34,6 @@ pub use verdict::{
     FileNote, Verdict, VerdictFault, asks, is_note_of, note_for, range_for, ranges_for, request_of,
     verdict_for, write_verdict,
 };
-pub use window::Window;
 
 /// A text of lines has one reading.
 pub fn reading_law()

@@ -1,6 +1,6 @@
 //! A line of an output: `KEY\tTOTAL\n`, `KEY\tFILE:OFFSET\n` or, of an index, `KEY\tFILE,FILE\n`.
 ghost use Rattle.std.specs.Prelude.{◌≡◌, ◌<◌, ◌≤◌, ◌+◌, ◌*◌, ◌^◌, ◌++◌, ℕ, ◌∷◌, IfErr, IfOk};
-ghost use Rattle.std.specs.Prelude.{IfSome, MatchOption, None, Some, decimal, map};
+ghost use Rattle.std.specs.Prelude.{IfSome, List, MatchOption, None, Some, decimal, map};
 ghost use Rattle.mr_jobs.specs.JobSpec.{JobSpec};
 ghost use Rattle.mr_bytes.specs.Cut.{Lacks};
 ghost use Rattle.mr_shards.specs.Lines.{groups_in};
@@ -176,19 +176,19 @@ fn tally_of<'a>(job: &Job, told: &'a [u8]) -> Option<Tally<'a>>
     }
 }
 
-/// The first line of a text, and the rest.
-pub(crate) fn first_line<'a>(job: &Job, text: &'a [u8]) -> Option<(Line<'a>, &'a [u8])>
-    ensures read { IfSome result (λ r. groups_in job.now text.entry.now ≡ group_of r.0 ∷ groups_in job.now r.1.now) }
-    ensures kind { IfSome result (λ r. IsFor job.now r.0.tally) }
-    ensures still { IfSome result (λ r. IsUnshifted r.0.tally) }
-    ensures front { IfSome result (λ r. HasFront r.0) }
-    ensures line { IfSome result (λ r. IsLineOf job.now (group_of r.0)) }
-    ensures text { IfSome result (λ r. text.entry.now ≡ group_text job.now (group_of r.0) ++ r.1.now) }
-    ensures none { (result ≡ None) → BeginsWithLine job.now text.entry.now → ⊥ }
+/// Parses a line without its line feed.
+pub(crate) fn parse_line<'a>(job: &Job, line: &'a [u8]) -> Option<Line<'a>>
+    requires { Lacks 10 line.now }
+    ensures read { IfSome result (λ l. (rest : List ℕ)
+        → groups_in job.now (line.entry.now ++ 10 ∷ rest) ≡ group_of l ∷ groups_in job.now rest) }
+    ensures kind { IfSome result (λ l. IsFor job.now l.tally) }
+    ensures still { IfSome result (λ l. IsUnshifted l.tally) }
+    ensures front { IfSome result (λ l. HasFront l) }
+    ensures line { IfSome result (λ l. IsLineOf job.now (group_of l)) }
+    ensures text { IfSome result (λ l. (rest : List ℕ)
+        → line.entry.now ++ 10 ∷ rest ≡ group_text job.now (group_of l) ++ rest) }
+    ensures none { (result ≡ None) → (rest : List ℕ) → BeginsWithLine job.now (line.entry.now ++ 10 ∷ rest) → ⊥ }
 {
-    let Some((line, rest)) = cut_first(text, b'\n') else {
-        return None;
-    };
     let Some((key, told)) = cut_last(line, b'\t') else {
         return None;
     };
@@ -196,7 +196,7 @@ pub(crate) fn first_line<'a>(job: &Job, text: &'a [u8]) -> Option<(Line<'a>, &'a
         return None;
     };
     let front = front_of(key);
-    Some((Line { key, front, tally }, rest))
+    Some(Line { key, front, tally })
 }
 
 /// A place in one of so many files of the shard, moved.

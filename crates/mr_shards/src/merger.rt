@@ -1,240 +1,299 @@
-//! Merges the outputs that shards have for one partition while they are read.
+//! Merges the outputs that shards have for one partition, in rounds, while they are read.
 //!
 //!     shard 0  a 2 | c 1 |
 //!     shard 1  a 3 | b 1 |    ->    a 5 | b 1 | c 1 |
 //!
-//! Equal keys come in the order of the shards. Totals of a key add up, and files of a key in an
-//! index become one list (`waiting.rt`). A place moves by the files of the shards before, and by
-//! their bytes of a file that goes on (`shift.rt`). Invariant: `out` and the key that waits are the
-//! merge of the lines taken. Cost: each line takes one look at the next line of every shard.
-ghost use Rattle.std.specs.Prelude.{◌≡◌, ℕ, ◌≤◌, ◌++◌, ◌∷◌, [], IfErr, IfOk, OnErr, OnOk, length};
-ghost use Rattle.std.specs.Prelude.{map, option_map, List, Some, MatchOption, true, false, ◌<◌};
-ghost use Rattle.std.specs.Prelude.{None};
-ghost use Rattle.mr_shards.specs.Pieces.{ArePut, BlamesAll, Standing, are_last, cuts_before};
-ghost use Rattle.mr_shards.specs.Pieces.{fresh_all, is_past, moved_to, nothing, pieces_of};
-ghost use Rattle.mr_shards.specs.Pieces.{whole_window, IsMerged};
-ghost use Rattle.mr_shards.specs.Places.{kept, shown};
+//! A round sees a window of each output. It takes the least line of all, again and again, until a
+//! shard's next line is not whole; the windows of the next round begin there. A key waits until
+//! another one comes, also from round to round: totals of a key add up, and files of a key in an
+//! index become one list (`waiting.rt`). Equal keys come in the order of the shards. A place moves
+//! by the files of the shards before, and by their bytes of a file that goes on (`shift.rt`).
+//! Invariant: what was written, with the key that waits and the merge of the lines to come, is the
+//! merge of all. Cost: each line takes one look at the next line of every shard. A round takes, of
+//! some window that isn't the last, all whole lines but one: two lines in each let it go on.
+ghost use Rattle.std.specs.Prelude.{◌≡◌, ℕ, ◌≤◌, ◌++◌, ◌∷◌, [], ◌⊎◌, IfErr, IfOk, OnErr, OnOk, length};
+ghost use Rattle.std.specs.Prelude.{map, List, Some, true, false, ◌<◌};
+ghost use Rattle.std.specs.Prelude.{None, IfSome};
+ghost use Rattle.mr_jobs.specs.JobSpec.{JobSpec};
+ghost use Rattle.mr_shards.specs.Rounds.{AreFurther, AreHeads, AreOpen, AreReadUpTo, AreWindows};
+ghost use Rattle.mr_shards.specs.Rounds.{BlamesGoing, Goes, HasDry, HasDryHead, IsTooFar, Reading};
+ghost use Rattle.mr_shards.specs.Rounds.{Standing, cuts_at, held_for, no_cut, outputs_of};
+ghost use Rattle.mr_shards.specs.Rounds.{whole_window};
 ghost use Rattle.std.specs.List.{AllByRecursion};
-ghost use Rattle.mr_shards.specs.Cursors.{BlamesAt, IsFronted, IsHeadFor, ReadsOn};
+ghost use Rattle.mr_shards.specs.Cursors.{AreEnded, are_ended};
 ghost use Rattle.mr_shards.specs.Merged.{texts};
 ghost use Rattle.mr_shards.specs.Refused.{Blames, IsShardText, PassesNot};
 ghost use Rattle.mr_shards.specs.Portions.{behind, merged_portions, past_shard};
-ghost use Rattle.mr_shards.specs.Outputs.{AreAtFirst, IsOutputOfAll, parts_in};
+ghost use Rattle.mr_shards.specs.Outputs.{IsOutputOfAll, parts_in};
+ghost use Rattle.mr_shards.specs.Views.{IsWaitingFor, waits};
 
-use crate::cursor::{Cursor, advanced, next_line};
-use crate::piece::{
-    all_read, cuts_before, expect_order, held_of, merge_pieces, no_bytes, whole_windows,
-};
+use crate::cursor::{Cursor, Held, advance, next_line, read_line};
 use crate::shift::{ShardFiles, Shift, shifted_file, shifted_start};
-use crate::waiting::{put, taken};
-use crate::window::{Held, Place, Window, all_last, place_of};
-use mr_bytes::compare_keys;
+use crate::waiting::Waiting;
 use mr_jobs::Job;
 use std::alloc::{AllocError, Global};
-use std::cmp::Ordering;
 use std::marker::Model;
 use thiserror::Error;
 
-/// A place among the merged lines, with a key of its own.
-#[derive(Drop)]
-pub(crate) struct Bound {
-    pub key: Vec<u8>,
-    pub shards: usize,
+/// What was read of an output and isn't merged yet. `is_last` if the output ends with it.
+#[derive(Clone, Copy)]
+pub struct Window<'a> {
+    pub bytes: &'a [u8],
+    pub is_last: bool,
 }
 
-/// The state of a merge between windows.
+/// The state of a merge between rounds, with what the last round did.
 #[derive(Drop)]
 pub struct Merger {
     held: Vec<Held>,
-    /// All lines taken are before this place.
-    bound: Option<Bound>,
+    waiting: Waiting,
+    text: Vec<u8>,
+    cuts: Vec<usize>,
 }
 
 impl Model for Merger {
     ghost Value = { Standing };
 
-    ghost view = { λ m. record { held = m.held.items; bound = option_map kept m.bound } };
-}
-
-/// The place, unless it is before the bound.
-fn place_past<'a>(bound: &Option<Bound>, place: Option<Place<'a>>) -> Option<Place<'a>>
-    ensures { MatchOption result
-        (MatchOption place.entry (Unit {0}) (λ p. is_past (option_map kept bound.now) (shown p) ≡ false))
-        (λ r. (place.entry ≡ Some r) × (is_past (option_map kept bound.now) (shown r) ≡ true)) }
-{
-    let found = place?;
-    let Some(least) = bound else {
-        return Some(found);
-    };
-    match compare_keys(&least.key, found.key) {
-        Ordering::Less => Some(found),
-        Ordering::Equal if least.shards <= found.shards => Some(found),
-        _ => None,
-    }
-}
-
-/// Takes all of each window; all are the last.
-fn take_all(
-    alloc: Global,
-    job: &Job,
-    held: &[Held],
-    windows: &[Window<'_>],
-    out: &mut Vec<u8>,
-) -> Result<Vec<usize>, MergeFault>
-    requires count { length windows.now ≡ length held.now }
-    requires last { are_last windows.now ≡ true }
-    ensures cuts { IfOk result (λ cuts. cuts.items ≡ map whole_window windows.now) }
-    ensures put { IfOk result
-        (λ _. ArePut job.now (pieces_of held.now windows.now
-        (map whole_window windows.now)) out.old.items out.new.items) }
-    ensures err { IfErr result (BlamesAll job.now held.now windows.now) }
-    ensures kept { OnErr result (out.new.items ≡ out.old.items) }
-{
-    let cuts = whole_windows(alloc, windows)?;
-    merge_pieces(alloc, job, held, windows, &cuts, out)?;
-    Ok(cuts)
-}
-
-/// Takes nothing, and searches the lines for one to refuse.
-fn take_nothing(
-    alloc: Global,
-    job: &Job,
-    held: &[Held],
-    windows: &[Window<'_>],
-) -> Result<Vec<usize>, MergeFault>
-    requires count { length windows.now ≡ length held.now }
-    ensures cuts { IfOk result (λ cuts. cuts.items ≡ map nothing windows.now) }
-    ensures err { IfErr result (BlamesAll job.now held.now windows.now) }
-{
-    let cuts = no_bytes(alloc, windows)?;
-    expect_order(alloc, job, held, windows, &cuts)?;
-    Ok(cuts)
+    ghost view = { λ m. record { held = m.held.items; waiting = m.waiting; text = m.text.items;
+        cuts = m.cuts.items } };
 }
 
 impl Merger {
-    ghost use Rattle.mr_jobs.specs.JobSpec.{JobSpec};
-    ghost use Rattle.mr_shards.specs.Pieces.{Adds, AreFresh, AreWindows, AreWithin, GoesOn};
-    ghost use Rattle.mr_shards.specs.Pieces.{IsAfter, Reading, cuts_of, outputs_of, text_taken};
-    ghost use Rattle.mr_shards.specs.Refused.{Blames};
+    ghost use Rattle.mr_shards.specs.Rounds.{AreFresh, AreWindows, GoesOn, IsAfter, Merges, Reading};
+    ghost use Rattle.mr_shards.specs.Rounds.{outputs_of, pairs_held};
 
     /// A merger of shards with these files. Nothing is taken yet.
-    pub fn new(alloc: Global, files: &[ShardFiles]) -> Result<Merger, AllocError>
-        ensures fresh { IfOk result (λ m. m ≡ fresh_all files.now) }
-        ensures begins { IfOk result (λ m. (job : JobSpec) (rs : List Reading)
-            → AreFresh files.now rs → IsAfter job rs m × (text_taken job rs ≡ [])) }
+    pub fn new(alloc: Global, files: &[ShardFiles]) -> Result<Merger, MergeFault>
+        ensures shards { IfOk result (λ m. length m.held ≡ length files.now) }
+        ensures kind { IfOk result (λ m. (job : JobSpec) → IsWaitingFor job m.waiting) }
+        ensures fresh { IfOk result (λ m. (job : JobSpec) (rs : List Reading)
+            → AreFresh files.now rs → IsAfter job rs [] m) }
+        ensures err { IfErr result (λ e. (job : JobSpec) (rs : List Reading)
+            → AreFresh files.now rs → Blames job (outputs_of rs) e) }
     {
         Ok(Merger {
             held: held_of(alloc, files)?,
-            bound: None,
+            waiting: Waiting::new(alloc),
+            text: Vec::new(alloc),
+            cuts: Vec::new(alloc),
         })
     }
 
-    /// Merges what it can of the windows, appends the text, and returns how many bytes it took of
-    /// each. If all windows are the last, it takes all. Else it takes the lines before the least of
-    /// the last whole lines' keys, over windows with more to come. A job that joins the lines of a
-    /// key leaves that key's lines together. Another job takes them from the shards before the first
-    /// that has it as its last key, and all but the last line from that shard: windows go even if
-    /// they have only one key. If a window with more to come has no whole line, it takes nothing.
-    /// Lines that are not the job's or are out of order are refused, by their number in the whole
-    /// output. Of good outputs it takes something wherever each window with more to come has two
-    /// whole lines. So if it takes nothing it searches the lines for one to refuse, and no window
-    /// need grow for that.
-    pub fn step(
-        &mut self,
+    /// The text that the last round merged.
+    pub fn text(&self) -> &[u8]
+        ensures { result.now ≡ self.now.text }
+    {
+        self.text.as_slice()
+    }
+
+    /// How many bytes the last round took of each window.
+    pub fn cuts(&self) -> &[usize]
+        ensures { result.now ≡ self.now.cuts }
+    {
+        self.cuts.as_slice()
+    }
+
+    /// How many pairs the lines taken of the shard state; none if 64 bits don't hold their number.
+    pub fn pairs(&self, shard: usize) -> Option<u64>
+        ensures { result ≡ pairs_held self.now.held shard }
+    {
+        if shard < self.held.len() {
+            self.held[shard].pairs
+        } else {
+            None
+        }
+    }
+
+    /// Merges what it can of the windows. Where all are last, it takes all. A window that isn't
+    /// keeps at least its last whole line, as nobody knows what comes behind; where one has no whole
+    /// line, nothing is taken. Lines that are not the job's or are out of order are refused, by
+    /// their number in the whole output. The job is that of all rounds.
+    pub fn merge_round(
+        self,
         alloc: Global,
         job: &Job,
         windows: &[Window<'_>],
-        out: &mut Vec<u8>,
-    ) -> Result<Vec<usize>, MergeFault>
-        requires count { length windows.now ≡ length self.old.held }
-        ensures shards { length self.new.held ≡ length self.old.held }
-        ensures cuts { IfOk result (λ cuts. cuts.items ≡ cuts_of job.now self.old.bound windows.now) }
-        ensures within { IfOk result (λ cuts. AreWithin cuts.items windows.now) }
-        ensures goes { IfOk result (λ cuts. GoesOn job.now windows.now cuts.items self.old) }
-        ensures ok { IfOk result
-            (λ cuts. Adds job.now windows.now cuts.items self.old self.new out.old.items out.new.items) }
-        ensures err { IfErr result (λ e. (rs : List Reading) → IsAfter job.now rs self.old
+    ) -> Result<Merger, MergeFault>
+        requires count { length windows.now ≡ length self.held }
+        requires kind { IsWaitingFor job.now self.waiting }
+        ensures shards { IfOk result (λ m. length m.held ≡ length self.held) }
+        ensures kind { IfOk result (λ m. IsWaitingFor job.now m.waiting) }
+        ensures goes { IfOk result (λ m. GoesOn windows.now m.cuts) }
+        ensures ok { IfOk result (Merges job.now windows.now self) }
+        ensures err { IfErr result (λ e. (rs : List Reading) (text : List ℕ) → IsAfter job.now rs text self
             → AreWindows rs windows.now → Blames job.now (outputs_of rs) e) }
-        ensures kept { OnErr result ((self.new ≡ self.old) × (out.new.items ≡ out.old.items)) }
     {
-        if all_last(windows) {
-            return take_all(alloc, job, &self.held, windows, out);
+        let Merger {
+            held,
+            mut waiting,
+            mut text,
+            ..
+        } = self;
+        text.clear();
+        let Some(mut cursors) = open_all(alloc, job, held.as_slice(), windows)? else {
+            let cuts = no_cuts(alloc, windows)?;
+            return Ok(Merger {
+                held,
+                waiting,
+                text,
+                cuts,
+            });
+        };
+        merge_lines(job, &mut cursors, &mut waiting, &mut text)?;
+        if are_ended(cursors.as_slice()) {
+            waiting.put(job, &mut text)?;
         }
-        match place_past(&self.bound, place_of(job, windows)) {
-            Some(place) => self.take_to(alloc, job, windows, place, out),
-            None => take_nothing(alloc, job, &self.held, windows),
-        }
-    }
-
-    /// Takes the lines before the place, which is not before the bound.
-    fn take_to(
-        &mut self,
-        alloc: Global,
-        job: &Job,
-        windows: &[Window<'_>],
-        place: Place<'_>,
-        out: &mut Vec<u8>,
-    ) -> Result<Vec<usize>, MergeFault>
-        requires count { length windows.now ≡ length self.old.held }
-        ensures cuts { IfOk result (λ cuts. cuts.items ≡ cuts_before (shown place.entry) windows.now) }
-        ensures moved { IfOk result (λ _. self.new ≡ moved_to self.old windows.now (shown place.entry)) }
-        ensures put { IfOk result (λ _.
-            ArePut job.now (pieces_of self.old.held windows.now
-            (cuts_before (shown place.entry) windows.now)) out.old.items out.new.items) }
-        ensures err { IfErr result (BlamesAll job.now self.old.held windows.now) }
-        ensures kept { OnErr result ((self.new ≡ self.old) × (out.new.items ≡ out.old.items)) }
-    {
-        let cuts = cuts_before(alloc, windows, place)?;
-        expect_order(alloc, job, &self.held, windows, &cuts)?;
-        self.merge_to(alloc, job, windows, place, &cuts, out)?;
-        Ok(cuts)
-    }
-
-    /// Merges what the cuts take and moves the bound to the place.
-    fn merge_to(
-        &mut self,
-        alloc: Global,
-        job: &Job,
-        windows: &[Window<'_>],
-        place: Place<'_>,
-        cuts: &[usize],
-        out: &mut Vec<u8>,
-    ) -> Result<(), MergeFault>
-        requires count { length windows.now ≡ length self.old.held }
-        requires cuts { cuts.now ≡ cuts_before (shown place) windows.now }
-        ensures moved { OnOk result (self.new ≡ moved_to self.old windows.now (shown place.entry)) }
-        ensures put { OnOk result (ArePut job.now
-            (pieces_of self.old.held windows.now cuts.now) out.old.items out.new.items) }
-        ensures err { IfErr result (BlamesAll job.now self.old.held windows.now) }
-        ensures kept { OnErr result ((self.new ≡ self.old) × (out.new.items ≡ out.old.items)) }
-    {
-        let next = self.moved(alloc, windows, place, cuts)?;
-        merge_pieces(alloc, job, &self.held, windows, cuts, out)?;
-        *self = next;
-        Ok(())
-    }
-
-    /// The state once the lines before the place are taken.
-    fn moved(
-        &self,
-        alloc: Global,
-        windows: &[Window<'_>],
-        place: Place<'_>,
-        cuts: &[usize],
-    ) -> Result<Merger, AllocError>
-        requires count { length windows.now ≡ length self.now.held }
-        requires cuts { cuts.now ≡ cuts_before (shown place) windows.now }
-        ensures { IfOk result (λ m. m ≡ moved_to self.now windows.now (shown place.entry)) }
-    {
-        let key = Vec::from_slice(alloc, place.key)?;
         Ok(Merger {
-            held: all_read(alloc, &self.held, windows, cuts)?,
-            bound: Some(Bound {
-                key,
-                shards: place.shards,
-            }),
+            held: all_held(alloc, cursors.as_slice())?,
+            waiting,
+            text,
+            cuts: cuts_of(alloc, windows, cursors.as_slice())?,
         })
     }
+}
+
+fn keep_held(all: &mut Vec<Held>, held: Held) -> Result<(), AllocError>
+    ensures { OnOk result (all.new.items ≡ all.old.items ++ held ∷ []) }
+{
+    all.push(held).map_err(AllocError::from)?;
+    Ok(())
+}
+
+/// What is held of shards of which nothing is taken.
+fn held_of(alloc: Global, files: &[ShardFiles]) -> Result<Vec<Held>, MergeFault>
+    ensures ok { IfOk result (λ hs. hs.items ≡ held_for files.now) }
+    ensures err { IfErr result (λ e. (e ≡ MergeFault.OutOfMemory) ⊎ IsTooFar files.now e) }
+{
+    let mut all = Vec::new(alloc);
+    let mut before = Shift { files: 0, bytes: 0 };
+    for shard in 0..files.len() {
+        let held = Held {
+            before,
+            count: files[shard].count,
+            lines: 0,
+            pairs: Some(0),
+        };
+        keep_held(&mut all, held)?;
+        before = go_past(before, files[shard])?;
+    }
+    Ok(all)
+}
+
+fn keep_cursor<'a>(cursors: &mut Vec<Cursor<'a>>, cursor: Cursor<'a>) -> Result<(), AllocError>
+    ensures { OnOk result (cursors.new.items ≡ cursors.old.items ++ cursor.entry ∷ []) }
+{
+    cursors.push(cursor).map_err(AllocError::from)?;
+    Ok(())
+}
+
+/// Reads the first line of each window; none if one of them isn't whole.
+fn open_all<'a>(
+    alloc: Global,
+    job: &Job,
+    held: &[Held],
+    windows: &[Window<'a>],
+) -> Result<Option<Vec<Cursor<'a>>>, MergeFault>
+    requires { length windows.now ≡ length held.now }
+    ensures some { IfOk result (λ o. IfSome o (λ cs. AreOpen job.now held.now windows.entry.now cs.items)) }
+    ensures none { IfOk result (λ o. o ≡ None → HasDry windows.entry.now) }
+    ensures err { IfErr result (λ e. (rs : List Reading) → AreReadUpTo job.now held.now rs
+        → AreWindows rs windows.entry.now → Blames job.now (outputs_of rs) e) }
+{
+    let mut cursors = Vec::new(alloc);
+    for shard in 0..windows.len() {
+        let Window { bytes, is_last } = windows[shard];
+        let Some(cursor) = read_line(job, shard, held[shard], bytes, is_last)? else {
+            return Ok(None);
+        };
+        keep_cursor(&mut cursors, cursor)?;
+    }
+    Ok(Some(cursors))
+}
+
+/// Takes lines until a shard's next line isn't whole, or none is left.
+fn merge_lines(
+    job: &Job,
+    cursors: &mut Vec<Cursor<'_>>,
+    waiting: &mut Waiting,
+    out: &mut Vec<u8>,
+) -> Result<(), MergeFault>
+    requires heads { AreHeads job.now cursors.old.items }
+    requires waits { IsWaitingFor job.now waiting.old }
+    requires empty { out.old.items ≡ [] }
+    ensures goes { OnOk result (Goes job.now cursors.old.items cursors.new.items
+        (waits waiting.old) (waits waiting.new) out.new.items) }
+    ensures heads { OnOk result (AreHeads job.now cursors.new.items) }
+    ensures waits { OnOk result (IsWaitingFor job.now waiting.new) }
+    ensures further { OnOk result (AreFurther cursors.old.items cursors.new.items) }
+    ensures ends { OnOk result (AreEnded cursors.new.items ⊎ HasDryHead cursors.new.items) }
+    ensures err { IfErr result (BlamesGoing job.now cursors.old.items (waits waiting.old)) }
+{
+    let mut last = None;
+    while let Some((at, line)) = next_line(cursors, last) {
+        let Some(next) = advance(job, at, cursors[at])? else {
+            return Ok(());
+        };
+        cursors[at] = next;
+        waiting.take_line(job, line, out)?;
+        last = Some((at, line));
+    }
+    Ok(())
+}
+
+fn are_ended(cursors: &[Cursor<'_>]) -> bool
+    ensures { result ≡ are_ended cursors.now }
+{
+    for at in 0..cursors.len() {
+        if cursors[at].head.is_some() {
+            return false;
+        }
+    }
+    true
+}
+
+/// What was taken of each shard.
+fn all_held(alloc: Global, cursors: &[Cursor<'_>]) -> Result<Vec<Held>, AllocError>
+    ensures { IfOk result (λ hs. hs.items ≡ map (λ c. c.held) cursors.now) }
+{
+    let mut all = Vec::new(alloc);
+    for at in 0..cursors.len() {
+        keep_held(&mut all, cursors[at].held)?;
+    }
+    Ok(all)
+}
+
+fn keep_cut(cuts: &mut Vec<usize>, cut: usize) -> Result<(), AllocError>
+    ensures { OnOk result (cuts.new.items ≡ cuts.old.items ++ cut ∷ []) }
+{
+    cuts.push(cut).map_err(AllocError::from)?;
+    Ok(())
+}
+
+/// How many bytes of each window are before its cursor.
+fn cuts_of(
+    alloc: Global,
+    windows: &[Window<'_>],
+    cursors: &[Cursor<'_>],
+) -> Result<Vec<usize>, AllocError>
+    requires { length cursors.now ≡ length windows.now }
+    ensures { IfOk result (λ cuts. cuts.items ≡ cuts_at windows.now cursors.now) }
+{
+    let mut cuts = Vec::new(alloc);
+    for at in 0..windows.len() {
+        let cut = windows[at].bytes.len().saturating_sub(cursors[at].text.len());
+        keep_cut(&mut cuts, cut)?;
+    }
+    Ok(cuts)
+}
+
+fn no_cuts(alloc: Global, windows: &[Window<'_>]) -> Result<Vec<usize>, AllocError>
+    ensures { IfOk result (λ cuts. cuts.items ≡ map no_cut windows.now) }
+{
+    let mut cuts = Vec::new(alloc);
+    for _ in 0..windows.len() {
+        keep_cut(&mut cuts, 0)?;
+    }
+    Ok(cuts)
 }
 
 /// Why outputs are not merged. Shards and lines are numbered from 0.
@@ -276,14 +335,6 @@ pub struct ShardText<'a> {
     pub text: &'a [u8],
 }
 
-fn keep<'a>(cursors: &mut Vec<Cursor<'a>>, cursor: Cursor<'a>) -> Result<(), MergeFault>
-    ensures ok { OnOk result (cursors.new.items ≡ cursors.old.items ++ cursor.entry ∷ []) }
-    ensures err { IfErr result (λ e. e ≡ MergeFault.OutOfMemory) }
-{
-    cursors.push(cursor).map_err(AllocError::from)?;
-    Ok(())
-}
-
 /// How far places move behind a shard whose own move by `before`.
 fn go_past(before: Shift, files: ShardFiles) -> Result<Shift, MergeFault>
     ensures ok { IfOk result (λ s. s ≡ behind before (past_shard files)) }
@@ -302,64 +353,37 @@ fn go_past(before: Shift, files: ShardFiles) -> Result<Shift, MergeFault>
     })
 }
 
-fn open_all<'a>(
+fn files_in(alloc: Global, outputs: &[ShardText<'_>]) -> Result<Vec<ShardFiles>, AllocError>
+    ensures { IfOk result (λ fs. fs.items ≡ map (λ o. o.files) outputs.now) }
+{
+    let mut all = Vec::new(alloc);
+    for at in 0..outputs.len() {
+        all.push(outputs[at].files).map_err(AllocError::from)?;
+    }
+    Ok(all)
+}
+
+fn keep_window<'a>(windows: &mut Vec<Window<'a>>, bytes: &'a [u8]) -> Result<(), AllocError>
+    ensures { OnOk result (windows.new.items
+        ≡ windows.old.items ++ record { bytes = bytes.entry; is_last = true } ∷ []) }
+{
+    let is_last = true;
+    windows.push(Window { bytes, is_last }).map_err(AllocError::from)?;
+    Ok(())
+}
+
+/// Windows on the whole outputs.
+fn whole_windows<'a>(
     alloc: Global,
-    job: &Job,
     outputs: &[ShardText<'a>],
-) -> Result<Vec<Cursor<'a>>, MergeFault>
-    ensures first { IfOk result (λ v. AreAtFirst job.now v.items outputs.entry.now) }
-    ensures err { IfErr result (Blames job.now outputs.entry.now) }
+) -> Result<Vec<Window<'a>>, AllocError>
+    ensures { IfOk result (λ ws. ws.items ≡ map whole_window outputs.entry.now) }
 {
-    let mut cursors = Vec::new(alloc);
-    let mut before = Shift { files: 0, bytes: 0 };
-    for (shard, output) in outputs.iter().enumerate() {
-        let start = Cursor {
-            head: None,
-            rest: output.text,
-            before,
-            count: output.files.count,
-            lines: 0,
-        };
-        keep(&mut cursors, advanced(job, shard, start)?)?;
-        before = go_past(before, output.files)?;
+    let mut windows = Vec::new(alloc);
+    for at in 0..outputs.len() {
+        keep_window(&mut windows, outputs[at].text)?;
     }
-    Ok(cursors)
-}
-
-fn go_on<'a>(job: &Job, cursors: &mut Vec<Cursor<'a>>, at: usize) -> Result<(), MergeFault>
-    requires within { at < length cursors.old.items }
-    requires heads { AllByRecursion (λ c. IsFronted c.head) cursors.old.items }
-    ensures ok { OnOk result (ReadsOn job.now at cursors.old.items cursors.new.items) }
-    ensures err { IfErr result (BlamesAt job.now at cursors.old.items) }
-{
-    let next = advanced(job, at, cursors[at])?;
-    cursors[at] = next;
-    Ok(())
-}
-
-fn merge_lines<'a>(
-    alloc: Global,
-    job: &Job,
-    cursors: &mut Vec<Cursor<'a>>,
-    out: &mut Vec<u8>,
-) -> Result<(), MergeFault>
-    requires kinds { AllByRecursion (IsHeadFor job.now) cursors.old.items }
-    requires empty { out.old.items ≡ [] }
-    ensures ok { OnOk result ((os : List ShardText) → AreAtFirst job.now cursors.old.items os
-        → IsMerged job.now os out.new.items) }
-    ensures err { IfErr result (λ e. (os : List ShardText)
-        → AreAtFirst job.now cursors.old.items os → Blames job.now os e) }
-{
-    let mut waiting = None;
-    let mut places = Vec::new(alloc);
-    let mut last = None;
-    while let Some((at, line)) = next_line(cursors, last) {
-        go_on(job, cursors, at)?;
-        waiting = Some(taken(job, waiting, &mut places, line, out)?);
-        last = Some((at, line));
-    }
-    put(job, waiting, places.as_slice(), out)?;
-    Ok(())
+    Ok(windows)
 }
 
 /// Merges the outputs that shards have for one partition, in the order of the shards. It refuses
@@ -374,8 +398,9 @@ pub fn merge_parts(
     ensures whole { IfOk result (λ out. IsOutputOfAll job.now outputs.now out.items) }
     ensures err { IfErr result (Blames job.now outputs.now) }
 {
-    let mut cursors = open_all(alloc, job, outputs)?;
-    let mut out = Vec::new(alloc);
-    merge_lines(alloc, job, &mut cursors, &mut out)?;
-    Ok(out)
+    let files = files_in(alloc, outputs)?;
+    let windows = whole_windows(alloc, outputs)?;
+    let merger = Merger::new(alloc, files.as_slice())?;
+    let merged = merger.merge_round(alloc, job, windows.as_slice())?;
+    Ok(Vec::from_slice(alloc, merged.text())?)
 }

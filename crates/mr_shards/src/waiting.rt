@@ -3,16 +3,17 @@
 //!     cat 2      then cat 3      waits: cat 5
 //!     cat 0,3    then cat 3,4    waits: cat, with places in the files 0 3 3 4; written: cat 0,3,4
 //!
-//! Totals are added. The places of an index are listed one behind another; a file that is cut has
-//! two, and `group_text` writes its number once. A line of one place is never joined.
+//! Totals are added. Places are listed one behind another; a file that is cut has two, and
+//! `group_text` writes its number once. A line of one place is never joined.
 //! Invariant: `places` are those of the key that waits, in the order of the shards.
 //! Cost: linear in the lines. The list is cleared for each key, and its memory is used again.
-ghost use Rattle.std.specs.Prelude.{◌≡◌, ◌++◌, [], IfErr, IfOk, MatchOption, OnOk, Some, true};
-ghost use Rattle.mr_shards.specs.Cursors.{Goes, IsLineFor, StaysApart, with_waiting};
+ghost use Rattle.std.specs.Prelude.{◌≡◌, ◌++◌, [], IfErr, OnOk, None, Some, true, false};
+ghost use Rattle.mr_shards.specs.Cursors.{Goes, StaysApart, with_waiting};
 ghost use Rattle.mr_shards.specs.Lines.{joins};
 ghost use Rattle.mr_shards.specs.Merged.{joined, texts};
-ghost use Rattle.mr_shards.specs.Refused.{IsUnjoined, TakesNot};
-ghost use Rattle.mr_shards.specs.Views.{IsAdded, IsFor, group_of, waiting_group, waits};
+ghost use Rattle.mr_shards.specs.Refused.{IsUnadded, TakesNot};
+ghost use Rattle.mr_shards.specs.Views.{IsFor, IsWaitingFor, group_of, nothing_waits};
+ghost use Rattle.mr_shards.specs.Views.{waiting_group, waits};
 
 use crate::file_numbers::add_places;
 use crate::line::{Line, Tally};
@@ -20,112 +21,119 @@ use crate::merger::MergeFault;
 use mr_bytes::Value;
 use mr_jobs::Job;
 use mr_reduce::{append_total, group_text};
-use std::alloc::AllocError;
+use std::alloc::{AllocError, Global};
+use std::marker::Model;
 
-/// The waiting line, if the line is joined to it.
-fn alike<'a>(job: &Job, waiting: Option<Line<'a>>, line: Line<'_>) -> Option<Line<'a>>
-    ensures { MatchOption result (StaysApart job.now waiting.entry line.entry)
-        (λ w. (waiting.entry ≡ Some w) × (w.key.now ≡ line.entry.key.now) × (joins job.now ≡ true)) }
-{
-    let Some(first) = waiting else {
-        return None;
-    };
-    if job.has_lines() || first.key != line.key {
-        return None;
-    }
-    Some(first)
+/// The key that waits, if there is one, with its total, 0 for a job of places, and its places.
+#[derive(Drop)]
+pub(crate) struct Waiting {
+    some: bool,
+    key: Vec<u8>,
+    total: u64,
+    places: Vec<Value>,
 }
 
-/// Adds the places of a line of an index.
-fn add_line(job: &Job, places: &mut Vec<Value>, line: Line<'_>) -> Result<(), AllocError>
-    requires { IsFor job.now line.tally }
-    ensures { OnOk result (IsAdded line.entry.tally places.old.items places.new.items) }
-{
-    match line.tally {
-        Tally::Files { list, last, moved } => add_places(places, list, last, moved),
-        _ => Ok(()),
-    }
+impl Model for Waiting {
+    ghost use Rattle.mr_shards.specs.Views.{Waits};
+
+    ghost Value = { Waits };
+
+    ghost view = { λ w. record { some = w.some; key = w.key.items; total = w.total; places = w.places.items } };
 }
 
-/// Joins the line to the first of its key.
-fn join<'a>(
-    job: &Job,
-    first: Line<'a>,
-    places: &mut Vec<Value>,
-    line: Line<'a>,
-) -> Result<Line<'a>, MergeFault>
-    requires first { IsFor job.now first.tally }
-    requires line { IsFor job.now line.tally }
-    requires joins { joins job.now ≡ true }
-    ensures group { IfOk result (λ l. waiting_group l places.new.items
-        ≡ joined (waiting_group first.entry places.old.items) (group_of line.entry)) }
-    ensures kind { IfOk result (λ l. IsFor job.now l.tally) }
-    ensures err { IfErr result (IsUnjoined first.entry.tally places.old.items line.entry.tally) }
-{
-    let (Tally::Total(a), Tally::Total(b)) = (first.tally, line.tally) else {
-        add_line(job, places, line)?;
-        return Ok(first);
-    };
-    match a.checked_add(b) {
-        Some(total) => Ok(Line {
-            tally: Tally::Total(total),
-            ..first
-        }),
-        None => Err(MergeFault::TotalTooLarge),
-    }
-}
-
-/// What waits if the line does.
-fn begin(job: &Job, places: &mut Vec<Value>, line: Line<'_>) -> Result<(), AllocError>
-    requires { IsFor job.now line.tally }
-    ensures { OnOk result (waiting_group line.entry places.new.items ≡ group_of line.entry) }
-{
-    places.clear();
-    add_line(job, places, line)
-}
-
-/// Joins the line to the one that waits, or writes that one. Returns which waits now.
-pub(crate) fn taken<'a>(
-    job: &Job,
-    waiting: Option<Line<'a>>,
-    places: &mut Vec<Value>,
-    line: Line<'a>,
-    out: &mut Vec<u8>,
-) -> Result<Line<'a>, MergeFault>
-    requires waits { IsLineFor job.now waiting }
-    requires line { IsFor job.now line.tally }
-    ensures ok { IfOk result (λ l. Goes job.now (waits waiting.entry places.old.items) (group_of line.entry)
-        (waiting_group l places.new.items) out.old.items out.new.items) }
-    ensures kind { IfOk result (λ l. IsFor job.now l.tally) }
-    ensures err { IfErr result (TakesNot (waits waiting.entry places.old.items) (group_of line.entry)) }
-{
-    if let Some(first) = alike(job, waiting, line) {
-        return join(job, first, places, line);
-    }
-    put(job, waiting, places.as_slice(), out)?;
-    begin(job, places, line)?;
-    Ok(line)
-}
-
-/// Writes what waits.
-pub(crate) fn put(
-    job: &Job,
-    waiting: Option<Line<'_>>,
-    places: &[Value],
-    out: &mut Vec<u8>,
-) -> Result<(), AllocError>
-    requires { IsLineFor job.now waiting }
-    ensures { OnOk result (out.new.items
-        ≡ out.old.items ++ texts job.now (with_waiting (waits waiting.entry places.now) [])) }
-{
-    let Some(line) = waiting else {
-        return Ok(());
-    };
-    match line.tally {
-        Tally::Total(total) => append_total(line.key, total, out),
-        Tally::Place { file, offset } => {
-            group_text(job, line.key, &[Value::At { file, offset }], out)
+impl Waiting {
+    pub fn new(alloc: Global) -> Waiting
+        ensures { result ≡ nothing_waits }
+    {
+        Waiting {
+            some: false,
+            key: Vec::new(alloc),
+            total: 0,
+            places: Vec::new(alloc),
         }
-        Tally::Files { .. } => group_text(job, line.key, places, out),
+    }
+
+    /// Whether the line is joined to what waits.
+    fn takes(&self, job: &Job, line: Line<'_>) -> bool
+        ensures joined { result ≡ true → (waits self.now ≡ Some (waiting_group self.now))
+            × (self.now.key ≡ line.entry.key.now) × (joins job.now ≡ true) }
+        ensures apart { result ≡ false → StaysApart job.now (waits self.now) line.entry }
+    {
+        self.some && !job.has_lines() && self.key.as_slice() == line.key
+    }
+
+    /// Adds the values of a line.
+    fn add(&mut self, job: &Job, line: Line<'_>) -> Result<(), MergeFault>
+        requires waits { IsWaitingFor job.now self.old }
+        requires line { IsFor job.now line.tally }
+        ensures group { OnOk result (waiting_group self.new ≡ joined (waiting_group self.old) (group_of line.entry)) }
+        ensures some { OnOk result (self.new.some ≡ self.old.some) }
+        ensures waits { OnOk result (IsWaitingFor job.now self.new) }
+        ensures err { IfErr result (IsUnadded self.old.total line.entry.tally) }
+    {
+        match line.tally {
+            Tally::Total(total) => match self.total.checked_add(total) {
+                Some(total) => self.total = total,
+                None => return Err(MergeFault::TotalTooLarge),
+            },
+            Tally::Place { file, offset } => {
+                let place = Value::At { file, offset };
+                self.places.push(place).map_err(AllocError::from)?;
+            }
+            Tally::Files { list, last, moved } => add_places(&mut self.places, list, last, moved)?,
+        }
+        Ok(())
+    }
+
+    /// The line's key waits, without values.
+    fn begin(&mut self, line: Line<'_>) -> Result<(), AllocError>
+        ensures { OnOk result (self.new ≡ record { some = true; key = line.entry.key.now; total = 0; places = [] }) }
+    {
+        self.some = true;
+        self.key.clear();
+        self.key.extend_from_slice(line.key)?;
+        self.total = 0;
+        self.places.clear();
+        Ok(())
+    }
+
+    /// Joins the line to what waits, or writes that, and the line waits.
+    pub fn take_line(
+        &mut self,
+        job: &Job,
+        line: Line<'_>,
+        out: &mut Vec<u8>,
+    ) -> Result<(), MergeFault>
+        requires waits { IsWaitingFor job.now self.old }
+        requires line { IsFor job.now line.tally }
+        ensures ok { OnOk result (Goes job.now (waits self.old) (group_of line.entry)
+            (waiting_group self.new) out.old.items out.new.items) }
+        ensures some { OnOk result (waits self.new ≡ Some (waiting_group self.new)) }
+        ensures waits { OnOk result (IsWaitingFor job.now self.new) }
+        ensures err { IfErr result (TakesNot (waits self.old) (group_of line.entry)) }
+    {
+        if self.takes(job, line) {
+            return self.add(job, line);
+        }
+        self.put(job, out)?;
+        self.begin(line)?;
+        self.add(job, line)
+    }
+
+    /// Writes what waits. Nothing waits then.
+    pub fn put(&mut self, job: &Job, out: &mut Vec<u8>) -> Result<(), AllocError>
+        requires { IsWaitingFor job.now self.old }
+        ensures written { OnOk result (out.new.items ≡ out.old.items ++ texts job.now (with_waiting (waits self.old) [])) }
+        ensures waits { OnOk result ((waits self.new ≡ None) × IsWaitingFor job.now self.new) }
+    {
+        if !self.some {
+            return Ok(());
+        }
+        self.some = false;
+        if job.counts() {
+            append_total(self.key.as_slice(), self.total, out)
+        } else {
+            group_text(job, self.key.as_slice(), self.places.as_slice(), out)
+        }
     }
 }

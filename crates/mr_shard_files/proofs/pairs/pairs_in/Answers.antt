@@ -1,9 +1,8 @@
 use Rattle.std.proofs.Common.{◌≡◌, ◌∙◌, ◌++◌, [], ◌∷◌, append_assoc, append-nil, ap, subst, sym}
 use Rattle.mr_shards.specs.Lines.{lines}
 use Rattle.mr_shard_files.specs.Verified.{IsTotal}
-use Rattle.mr_shard_files.proofs.PairLemmas.{total_more, total_of_line}
+use Rattle.mr_shard_files.proofs.PairLemmas.{no-lines, total_more, total_of_line}
 use Rattle.mr_shards.proofs.ReadingLemmas.{lines-next}
-use Rattle.mr_shards.proofs.WindowLemmas.{no-lines}
 use Rattle.mr_shard_files.proofs.pairs.pairs_in.Goals as goal
 
 pub loop-line-preserved : goal.loop-line-preserved

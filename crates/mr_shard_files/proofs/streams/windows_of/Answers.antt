@@ -1,4 +1,4 @@
-use Rattle.mr_shards.specs.declared.window.Window.{Window}
+use Rattle.mr_shards.specs.declared.merger.Window.{Window}
 use Rattle.mr_shard_files.proofs.ShownLemmas.{shown_next}
 use Rattle.mr_shard_files.proofs.streams.windows_of.Goals as goal
 

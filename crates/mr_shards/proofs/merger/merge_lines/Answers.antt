@@ -1,113 +1,153 @@
-use Rattle.std.proofs.Common.{◌≡◌, ◌∙◌, ◌++◌, [], ap, sym, subst, Some, None, ℕ, List, Option}
+use Rattle.std.proofs.Common.{◌≡◌, ◌∙◌, ◌++◌, [], ap, sym, subst, inl, inr, refl, arith, set, Some, None, ℕ, List, Option}
+use Rattle.std.specs.Prelude.{IfSome}
 use Rattle.std.specs.List.{AllByRecursion}
+use Rattle.std.proofs.lemmas.List.{append-nil}
 use Rattle.std.proofs.lemmas.Result.{err_from_is_err_and}
 use Rattle.mr_shards.specs.declared.cursor.Cursor.{Cursor}
 use Rattle.mr_shards.specs.declared.line.Line.{Line}
 use Rattle.mr_shards.specs.declared.merger.MergeFault.{MergeFault}
 use Rattle.mr_shards.specs.declared.merger.ShardText.{ShardText}
-use Rattle.mr_shards.specs.Cursors.{AreBehind, IsFronted, least_from, with_waiting}
-use Rattle.mr_bytes.specs.declared.Value.{Value}
-use Rattle.mr_shards.specs.Merged.{texts}
-use Rattle.mr_shards.specs.Views.{group_of, waiting_group, waits}
-use Rattle.mr_shards.specs.Outputs.{AreAtFirst}
-use Rattle.mr_shards.specs.Refused.{Blames}
-use Rattle.mr_shards.proofs.FrontLemmas.{all-fronted}
-use Rattle.mr_shards.proofs.StepLemmas.{behind-step, best-of, IsLeast, IsBest, step-for, step-kinds, step-of, step-less}
-use Rattle.mr_shards.proofs.LoopLemmas.{kept-first, kept-step, kept-end, least-within}
-use Rattle.mr_shards.proofs.RefusedLemmas.{blames-left, blames-taken, handed, read-step}
-use Rattle.mr_shards.proofs.TotalLemmas.{too-large}
-use Rattle.mr_shards.proofs.LineLaws.{output-of_all}
+use Rattle.mr_shards.specs.Cursors.{AreBehind, BlamesNext, IsAdvanced, IsFronted, IsHeadOf, MayGoOn, least_from, on}
+use Rattle.mr_bytes.specs.Cut as Cut
+use Rattle.mr_shards.specs.Merged.{Group}
+use Rattle.mr_shards.specs.Rounds.{AreHeads, BlamesGoing, IsGoing}
+use Rattle.mr_shards.specs.Views.{waiting_group, waits}
+use Rattle.mr_shards.proofs.FrontLemmas.{all-at}
+use Rattle.mr_shards.proofs.LoopLemmas.{least-within}
+use Rattle.mr_shards.proofs.RefusedLemmas.{handed}
+use Rattle.mr_shards.proofs.RoundLemmas.{all-set, behind-next, dry-head, further-all, further-next, further-set, going-blames, going-large, going-step, head-is, heads-fronted, next-smaller, set-smaller, whole-head}
+use Rattle.mr_shards.proofs.StepLemmas.{IsBest, IsLeast, best-of}
 use Rattle.mr_shards.proofs.merger.merge_lines.Goals as goal
 
 -- the least of the cursors is the least of those that the vector holds
-least : (cs seen : List Cursor) (o : Option (ℕ × Line)) (at : ℕ) (line : Line) → seen ≡ cs → o ≡ least_from None 0 seen → o ≡ Some (at, line) → IsLeast cs at line
-least cs seen o at line same found is = best-of cs (Some (at, line)) (sym is ∙ found ∙ ap (least_from None 0) same)
+same-least : (cs seen : List Cursor) (o : Option (ℕ × Line)) (at : ℕ) (line : Line) → seen ≡ cs → o ≡ least_from None 0 seen → o ≡ Some (at, line) → Some (at, line) ≡ least_from None 0 cs
+same-least cs seen o at line same found is = sym is ∙ found ∙ ap (least_from None 0) same
+
+least : (cs : List Cursor) (at : ℕ) (line : Line) → Some (at, line) ≡ least_from None 0 cs → IsLeast cs at line
+least cs at line e = best-of cs (Some (at, line)) e
 
 pub loop-at-init : goal.loop-at-init
 loop-at-init c = record {
-  kinds = c.requires.kinds;
-  kept = λ os f. kept-first c.args.job.now os c.args.cursors.now.items c.args.out.now.items f.kinds f.read f.opened f.lefts c.requires.empty;
-  waits = tt;
+  heads = c.requires.heads;
+  further = further-all c.args.cursors.now.items;
+  kind = c.requires.waits;
+  goes = λ os f text g. subst (IsGoing c.args.job.now os f c.args.cursors.now.items (waits c.args.waiting.now))
+      (sym (ap (λ (o : List ℕ). text ++ o) c.requires.empty ∙ append-nil text)) g;
   behind = tt;
 }
 
 pub next_line-requires-clause-heads : goal.next_line-requires-clause-heads
 next_line-requires-clause-heads c =
-    subst (AllByRecursion (λ (q : Cursor). IsFronted q.head)) (sym c.deref.ensures.value) (all-fronted c.args.job.now c.loop-at.cursors.items c.loop-at.invariant.kinds)
+    subst (AllByRecursion (λ (q : Cursor). IsFronted q.head)) (sym c.deref.ensures.value) (heads-fronted c.args.job.now c.loop-at.cursors.items c.loop-at.invariant.heads)
 
 pub next_line-requires-clause-behind : goal.next_line-requires-clause-behind
 next_line-requires-clause-behind c = subst (AreBehind c.loop-at.last) (sym c.deref.ensures.value) c.loop-at.invariant.behind
 
-pub go_on-requires-clause-heads : goal.go_on-requires-clause-heads
-go_on-requires-clause-heads c = all-fronted c.args.job.now c.loop-at.cursors.items c.loop-at.invariant.kinds
+pub index-requires : goal.index-requires
+index-requires c =
+    let cs = c.loop-at.cursors.items in
+    let l = least-within cs c.in-Some.at c.in-Some.line
+    (least cs c.in-Some.at c.in-Some.line (same-least cs c.deref.result.now c.next_line.result c.in-Some.at c.in-Some.line c.deref.ensures.value c.next_line.ensures c.in-Some.is)) in
+    omega (arith, l, c.loop-at.cursors.ok.0)
 
-pub go_on-requires-clause-within : goal.go_on-requires-clause-within
-go_on-requires-clause-within c =
-    least-within c.loop-at.cursors.items c.in-Some.at c.in-Some.line
-    (least c.loop-at.cursors.items c.deref.result.now c.next_line.result c.in-Some.at c.in-Some.line c.deref.ensures.value c.next_line.ensures c.in-Some.is)
+pub index_mut-requires : goal.index_mut-requires
+index_mut-requires c =
+    let cs = c.loop-at.cursors.items in
+    let l = least-within cs c.in-Some.at c.in-Some.line
+    (least cs c.in-Some.at c.in-Some.line (same-least cs c.deref.result.now c.next_line.result c.in-Some.at c.in-Some.line c.deref.ensures.value c.next_line.ensures c.in-Some.is)) in
+    omega (arith, l, c.loop-at.cursors.ok.0)
+
+pub advance-requires : goal.advance-requires
+advance-requires c =
+    let cs = c.loop-at.cursors.items in
+    let l = least-within cs c.in-Some.at c.in-Some.line
+    (least cs c.in-Some.at c.in-Some.line (same-least cs c.deref.result.now c.next_line.result c.in-Some.at c.in-Some.line c.deref.ensures.value c.next_line.ensures c.in-Some.is)) in
+    subst (λ (q : Cursor). IsFronted q.head) (sym c.index.ensures)
+    (all-at (λ (q : Cursor). IsFronted q.head) cs c.in-Some.at c.index.result.now (heads-fronted c.args.job.now cs c.loop-at.invariant.heads) l)
+
+pub returns-in_err-next-clause-err : goal.returns-in_err-next-clause-err
+returns-in_err-next-clause-err c =
+    let job = c.args.job.now in
+    let cs = c.loop-at.cursors.items in
+    let at = c.in-Some.at in
+    let one = c.index.result.now in
+    let l = least-within cs at c.in-Some.line
+    (least cs at c.in-Some.line (same-least cs c.deref.result.now c.next_line.result at c.in-Some.line c.deref.ensures.value c.next_line.ensures c.in-Some.is)) in
+    handed (BlamesGoing job c.args.cursors.now.items (waits c.args.waiting.now)) c.from_residual.result c.in_err-next.field-0.0
+    (err_from_is_err_and c.from_residual.result c.from_residual.ensures.1)
+    (λ os f text g. going-blames job os f cs at one (waits c.loop-at.waiting) (text ++ c.loop-at.out.items) c.in_err-next.field-0.0 l (c.loop-at.invariant.goes os f text g)
+    (subst (λ (q : Cursor). (more : List ℕ) → MayGoOn q.is_last more → BlamesNext job at (on q more) c.in_err-next.field-0.0) c.index.ensures c.in_err-next.ensures.err))
+
+pub returns-in_default-2-clause-ends : goal.returns-in_default-2-clause-ends
+returns-in_default-2-clause-ends c =
+    let job = c.args.job.now in
+    let cs = c.loop-at.cursors.items in
+    let at = c.in-Some.at in
+    let one = c.index.result.now in
+    let b = least cs at c.in-Some.line (same-least cs c.deref.result.now c.next_line.result at c.in-Some.line c.deref.ensures.value c.next_line.ensures c.in-Some.is) in
+    let l = least-within cs at c.in-Some.line b in
+    let n = c.in_ok-next.ensures.none c.in_default-2.is in
+    inr (dry-head job cs at one c.in-Some.line l (whole-head job cs at one c.in-Some.line b l c.loop-at.invariant.heads)
+    (subst (λ (q : Cursor). Cut.Lacks 10 q.rest.now) c.index.ensures n.0) (ap (λ (q : Cursor). q.is_last) (sym c.index.ensures) ∙ n.1))
+
+pub take_line-requires-clause-line : goal.take_line-requires-clause-line
+take_line-requires-clause-line c =
+    let cs = c.loop-at.cursors.items in
+    let at = c.in-Some.at in
+    let b = least cs at c.in-Some.line (same-least cs c.deref.result.now c.next_line.result at c.in-Some.line c.deref.ensures.value c.next_line.ensures c.in-Some.is) in
+    (whole-head c.args.job.now cs at c.index.result.now c.in-Some.line b (least-within cs at c.in-Some.line b) c.loop-at.invariant.heads).kind
+
+-- the cursor that advanced
+advanced : (o : Option Cursor) (one get next : Cursor) (P : Cursor → Cursor → Type 0) → one ≡ get → o ≡ Some next → IfSome o (P one) → P get next
+advanced o one get next P same is h = subst (λ (q : Cursor). P q next) same (subst (λ (x : Option Cursor). IfSome x (P one)) is h)
+
+pub returns-in_err-take_line-clause-err : goal.returns-in_err-take_line-clause-err
+returns-in_err-take_line-clause-err c =
+    let job = c.args.job.now in
+    let cs = c.loop-at.cursors.items in
+    let at = c.in-Some.at in
+    let one = c.index.result.now in
+    let e = same-least cs c.deref.result.now c.next_line.result at c.in-Some.line c.deref.ensures.value c.next_line.ensures c.in-Some.is in
+    let l = least-within cs at c.in-Some.line (least cs at c.in-Some.line e) in
+    let a = advanced c.in_ok-next.field-0 one _ c.in-Some-2.next (IsAdvanced job) c.index.ensures c.in-Some-2.is c.in_ok-next.ensures.some in
+    handed (BlamesGoing job c.args.cursors.now.items (waits c.args.waiting.now)) c.from_residual-in_err-take_line.result c.in_err-take_line.field-0.0
+    (err_from_is_err_and c.from_residual-in_err-take_line.result c.from_residual-in_err-take_line.ensures.1)
+    (λ os f text g. going-large job os f cs at _ c.in-Some-2.next c.in-Some.line (waits c.loop-at.waiting) (text ++ c.loop-at.out.items) c.in_err-take_line.field-0.0 l e a
+    (c.loop-at.invariant.goes os f text g) c.in_err-take_line.ensures.err)
 
 pub loop-at-smaller : goal.loop-at-smaller
 loop-at-smaller c =
-    let old = c.loop-at.cursors.items in
-    let new = c.go_on.new.cursors.items in
-    let b = least old c.deref.result.now c.next_line.result c.in-Some.at c.in-Some.line c.deref.ensures.value c.next_line.ensures c.in-Some.is in
-    step-less c.args.job.now old new c.in-Some.line (step-of c.args.job.now c.in-Some.at old new c.in-Some.line b c.in_ok-go_on.ensures.ok)
+    let job = c.args.job.now in
+    let cs = c.loop-at.cursors.items in
+    let at = c.in-Some.at in
+    let one = c.index.result.now in
+    let b = least cs at c.in-Some.line (same-least cs c.deref.result.now c.next_line.result at c.in-Some.line c.deref.ensures.value c.next_line.ensures c.in-Some.is) in
+    let l = least-within cs at c.in-Some.line b in
+    let a = advanced c.in_ok-next.field-0 one _ c.in-Some-2.next (IsAdvanced job) c.index.ensures c.in-Some-2.is c.in_ok-next.ensures.some in
+    set-smaller cs at _ c.in-Some-2.next l (next-smaller job _ c.in-Some-2.next c.in-Some.line (whole-head job cs at _ c.in-Some.line b l c.loop-at.invariant.heads) a)
 
 pub loop-at-preserved : goal.loop-at-preserved
 loop-at-preserved c =
     let job = c.args.job.now in
-    let old = c.loop-at.cursors.items in
-    let new = c.go_on.new.cursors.items in
-    let b = least old c.deref.result.now c.next_line.result c.in-Some.at c.in-Some.line c.deref.ensures.value c.next_line.ensures c.in-Some.is in
-    let step = step-of job c.in-Some.at old new c.in-Some.line b c.in_ok-go_on.ensures.ok in
+    let cs = c.loop-at.cursors.items in
+    let at = c.in-Some.at in
+    let one = c.index.result.now in
+    let line = c.in-Some.line in
+    let next = c.in-Some-2.next in
+    let e = same-least cs c.deref.result.now c.next_line.result at line c.deref.ensures.value c.next_line.ensures c.in-Some.is in
+    let b = least cs at line e in
+    let l = least-within cs at line b in
+    let a = advanced c.in_ok-next.field-0 one _ next (IsAdvanced job) c.index.ensures c.in-Some-2.is c.in_ok-next.ensures.some in
+    let w = whole-head job cs at _ line b l c.loop-at.invariant.heads in
     record {
-      kinds = step-kinds job old new c.in-Some.line step c.loop-at.invariant.kinds;
-      kept = λ os f.
-          (let k = c.loop-at.invariant.kept os f in
-          kept-step job os old new (waits c.loop-at.waiting c.loop-at.places.items) c.in-Some.line (waiting_group c.in_ok-taken.field-0 c.taken.new.places.items) c.loop-at.out.items c.taken.new.out.items step
-          (read-step job os c.in-Some.at old new (least-within old c.in-Some.at c.in-Some.line b) c.in_ok-go_on.ensures.ok k.read) c.in_ok-taken.ensures.ok k);
-      waits = c.in_ok-taken.ensures.kind;
-      behind = behind-step job c.in-Some.at old new c.in-Some.line b c.in_ok-go_on.ensures.ok c.loop-at.invariant.kinds;
+      heads = all-set (λ (q : Cursor). IsHeadOf job q q.head) cs at next c.loop-at.invariant.heads a.opened.head;
+      further = further-set c.args.cursors.now.items cs at _ next c.loop-at.invariant.further l (further-next job _ next line w a);
+      kind = c.in_ok-take_line.ensures.waits;
+      goes = λ os f text g. subst (λ (o : Option Group). IsGoing job os f (set cs at next) o (text ++ c.take_line.new.out.items)) (sym c.in_ok-take_line.ensures.some)
+          (going-step job os f cs at _ next line (waits c.loop-at.waiting) (waiting_group c.take_line.new.self) text c.loop-at.out.items c.take_line.new.out.items l e (head-is cs at _ line b) w.kind a
+          c.in_ok-take_line.ensures.ok (c.loop-at.invariant.goes os f text g));
+      behind = behind-next job at cs _ next line b l c.loop-at.invariant.heads a;
     }
 
--- no cursor is left
-ends : (cs seen : List Cursor) → seen ≡ cs → None ≡ least_from None 0 seen → IsBest cs None
-ends cs seen same found = best-of cs None (found ∙ ap (least_from None 0) same)
-
-pub returns-clause-ok : goal.returns-clause-ok
-returns-clause-ok c = λ os f.
-    (let job = c.args.job.now in
-    let e = kept-end job os c.loop-at.cursors.items (waits c.loop-at.waiting c.loop-at.places.items) c.loop-at.out.items
-    (ends c.loop-at.cursors.items c.deref.result.now c.deref.ensures.value c.in_default.ensures) (c.loop-at.invariant.kept os f) in
-    let text = c.in_ok-put.ensures ∙ ap (λ (ps : List Value). c.loop-at.out.items ++ texts job (with_waiting (waits c.loop-at.waiting ps) [])) c.as_slice.ensures.value ∙ e.text in
-    record { stands = e.stands; text_is = text; whole = output-of_all job os c.put.new.out.items text })
-
-pub returns-in_err-go_on-clause-err : goal.returns-in_err-go_on-clause-err
-returns-in_err-go_on-clause-err c =
-    let job = c.args.job.now in
-    let old = c.loop-at.cursors.items in
-    let b = least old c.deref.result.now c.next_line.result c.in-Some.at c.in-Some.line c.deref.ensures.value c.next_line.ensures c.in-Some.is in
-    let w = c.in_err-go_on.ensures.err in
-    handed (λ (e : MergeFault). (os : List ShardText) → AreAtFirst job c.args.cursors.now.items os → Blames job os e) c.from_residual.result c.in_err-go_on.field-0.0
-    (err_from_is_err_and c.from_residual.result c.from_residual.ensures.1)
-    (λ os f. blames-left job c.in-Some.at old os w.one c.in_err-go_on.field-0.0 (least-within old c.in-Some.at c.in-Some.line b) w.is (c.loop-at.invariant.kept os f).read w.blames)
-
-pub returns-in_err-taken-clause-err : goal.returns-in_err-taken-clause-err
-returns-in_err-taken-clause-err c =
-    let job = c.args.job.now in
-    let old = c.loop-at.cursors.items in
-    let new = c.go_on.new.cursors.items in
-    let b = least old c.deref.result.now c.next_line.result c.in-Some.at c.in-Some.line c.deref.ensures.value c.next_line.ensures c.in-Some.is in
-    let step = step-of job c.in-Some.at old new c.in-Some.line b c.in_ok-go_on.ensures.ok in
-    handed (λ (e : MergeFault). (os : List ShardText) → AreAtFirst job c.args.cursors.now.items os → Blames job os e) c.from_residual-in_err-taken.result c.in_err-taken.field-0.0
-    (err_from_is_err_and c.from_residual-in_err-taken.result c.from_residual-in_err-taken.ensures.1)
-    (λ os f. blames-taken job os (waits c.loop-at.waiting c.loop-at.places.items) (group_of c.in-Some.line) c.in_err-taken.field-0.0 c.in_err-taken.ensures.err
-    (too-large job os old new (waits c.loop-at.waiting c.loop-at.places.items) c.in-Some.line step (c.loop-at.invariant.kept os f).few))
-
-pub taken-requires-clause-line : goal.taken-requires-clause-line
-taken-requires-clause-line c =
-    let job = c.args.job.now in
-    let old = c.loop-at.cursors.items in
-    let new = c.go_on.new.cursors.items in
-    let b = least old c.deref.result.now c.next_line.result c.in-Some.at c.in-Some.line c.deref.ensures.value c.next_line.ensures c.in-Some.is in
-    step-for job old new c.in-Some.line (step-of job c.in-Some.at old new c.in-Some.line b c.in_ok-go_on.ensures.ok) c.loop-at.invariant.kinds
+pub returns-clause-ends : goal.returns-clause-ends
+returns-clause-ends c = inl (best-of c.loop-at.cursors.items None (sym c.in_default.is ∙ c.next_line.ensures ∙ ap (least_from None 0) c.deref.ensures.value))

@@ -1,49 +1,35 @@
-use Rattle.std.proofs.Common.{ap, length, ◌∙◌, ◌≡◌, ◌++◌, [], ◌∷◌, List, map, sym, subst, take, drop, ◌+◌}
-use Rattle.std.specs.List.{AllByRecursion}
-use Rattle.mr_shards.specs.declared.cursor.Cursor.{Cursor}
-use Rattle.mr_shards.specs.Cursors.{IsHeadFor, left}
-use Rattle.mr_shards.specs.Outputs.{AreOpened, parts_in}
-use Rattle.mr_shards.proofs.StepLemmas.{all-append}
-use Rattle.mr_shards.proofs.LoopLemmas.{opened-more, lefts-more}
+use Rattle.std.proofs.Common.{◌<◌, ◌≡◌, ◌++◌, ◌∷◌, [], ◌∙◌, ap, sym, ◌+◌, List, ℕ, length, subst, Option, arith, get_or}
 use Rattle.std.proofs.lemmas.List.{length_push}
-use Rattle.mr_shards.specs.Refused.{AreRead}
-use Rattle.mr_shards.proofs.RefusedLemmas.{blamed, blames-opening, passes-not, read-push, shift-next}
 use Rattle.std.proofs.lemmas.Result.{err_from_is_err_and}
-use Rattle.mr_shards.specs.Portions.{no_shift, shifted_parts}
+use Rattle.mr_shards.specs.declared.merger.MergeFault.{MergeFault}
+use Rattle.mr_shards.specs.Refused.{Blames}
+use Rattle.mr_shards.specs.Rounds.{AreReadUpTo, AreWindows, Reading, outputs_of}
+use Rattle.mr_shards.proofs.RefusedLemmas.{blames-opening, handed}
+use Rattle.mr_shards.proofs.RoundLemmas.{dry-at, no_reading, open-push, window-at, windows-count}
 use Rattle.mr_shards.proofs.merger.open_all.Goals as goal
+
+pub returns-in_err-cursor-clause-err : goal.returns-in_err-cursor-clause-err
+returns-in_err-cursor-clause-err c =
+    let job = c.args.job.now in
+    let i = c.loop-shard.shard in
+    handed (λ (e : MergeFault). (rs : List Reading) → AreReadUpTo job c.args.held.now rs → AreWindows rs c.args.windows.now → Blames job (outputs_of rs) e) c.from_residual.result c.in_err-cursor.field-0.0
+    (err_from_is_err_and c.from_residual.result c.from_residual.ensures.1)
+    (λ rs read v.
+    (let w = window-at rs c.args.windows.now i no_reading _ v c.loop-shard-test.true in
+    let less = subst (λ n. i < n) (sym (windows-count rs c.args.windows.now v)) c.loop-shard-test.true in
+    blames-opening job (outputs_of rs) i _ (get_or rs i no_reading) _ c.in_err-cursor.field-0.0 (read i _ no_reading less) w.is (c.in_err-cursor.ensures.err w.more w.none_more)))
+
+pub returns-in_default-clause-none : goal.returns-in_default-clause-none
+returns-in_default-clause-none c = λ _.
+    let n = c.in_ok-cursor.ensures.none c.in_default.is in
+    dry-at c.args.windows.now c.loop-shard.shard _ c.loop-shard-test.true n.0 n.1
 
 pub loop-shard-preserved : goal.loop-shard-preserved
 loop-shard-preserved c =
-    let job = c.args.job.now in
-    let os = c.args.outputs.now in
-    let old = c.loop-shard.cursors.items in
-    let i = c.loop-shard.shard in
-    let one = c.in_ok-advanced.field-0 in
-    let e : c.keep.new.cursors.items ≡ old ++ one ∷ [] = c.in_ok-keep.ensures.ok in
-    let opened : AreOpened job (old ++ one ∷ []) (take (i + 1) os) =
-    opened-more job old os i _ one c.loop-shard-test.true c.loop-shard.invariant.opened
-    (λ s. c.in_ok-advanced.ensures.behind s.rest) in
-    let lefts : map (left job) (old ++ one ∷ []) ++ shifted_parts c.in_ok-before.before (parts_in job (drop (i + 1) os)) ≡ shifted_parts no_shift (parts_in job os) =
-    lefts-more job old os i c.loop-shard.before c.in_ok-before.before _ one (shifted_parts no_shift (parts_in job os)) c.loop-shard-test.true c.loop-shard.invariant.lefts c.in_ok-advanced.ensures.left c.in_ok-before.ensures.ok in
+    let one = c.in-Some.cursor in
+    let e = c.in_ok-keep_cursor.ensures in
     record {
-      kinds = subst (AllByRecursion (IsHeadFor job)) (sym e) (all-append (IsHeadFor job) old (one ∷ []) c.loop-shard.invariant.kinds (c.in_ok-advanced.ensures.kind, tt));
-      opened = subst (λ (cs : List Cursor). AreOpened job cs (take (i + 1) os)) (sym e) opened;
-      counted = ap length e ∙ length_push old one ∙ ap (λ k. k + 1) c.loop-shard.invariant.counted;
-      read = subst (λ (cs : List Cursor). AreRead job cs os) (sym e)
-          (read-push job old os i _ one c.loop-shard.invariant.counted c.loop-shard-test.true c.loop-shard.invariant.read c.in_ok-advanced.ensures.read
-          (c.in_ok-advanced.ensures.files.0 ∙ c.loop-shard.invariant.behind) c.in_ok-advanced.ensures.files.1);
-      behind = shift-next os i _ c.loop-shard.before c.in_ok-before.before c.loop-shard-test.true c.loop-shard.invariant.behind c.in_ok-before.ensures.ok;
-      lefts = subst (λ (cs : List Cursor). map (left job) cs ++ shifted_parts c.in_ok-before.before (parts_in job (drop (i + 1) os)) ≡ shifted_parts no_shift (parts_in job os)) (sym e) lefts;
+      count = ap length e ∙ length_push c.loop-shard.cursors.items one ∙ ap (λ k. k + 1) c.loop-shard.invariant.count;
+      at = λ i h w d l. open-push c.args.job.now c.args.held.now c.args.windows.now c.loop-shard.cursors.items c.keep_cursor.new.cursors.items c.loop-shard.shard one c.in_ok-cursor.field-0 _ _ _
+          c.loop-shard.invariant.count c.loop-shard-test.true e c.in-Some.is c.in_ok-cursor.ensures.some c.loop-shard.invariant.at (omega (arith, c.loop-shard-test.true, c.requires)) i h w d l;
     }
-
-pub returns-in_err-advanced-clause-err : goal.returns-in_err-advanced-clause-err
-returns-in_err-advanced-clause-err c =
-    blamed c.args.job.now c.args.outputs.now c.from_residual.result c.in_err-advanced.field-0.0
-    (err_from_is_err_and c.from_residual.result c.from_residual.ensures.1)
-    (blames-opening c.args.job.now c.loop-shard.shard c.loop-shard.before c.args.outputs.now _ c.in_err-advanced.field-0.0 c.loop-shard-test.true c.loop-shard.invariant.behind c.in_err-advanced.ensures.err)
-
-pub returns-in_err-before-clause-err : goal.returns-in_err-before-clause-err
-returns-in_err-before-clause-err c =
-    blamed c.args.job.now c.args.outputs.now c.from_residual-in_err-before.result c.in_err-before.field-0.0
-    (err_from_is_err_and c.from_residual-in_err-before.result c.from_residual-in_err-before.ensures.1)
-    (passes-not c.args.job.now c.args.outputs.now c.loop-shard.shard _ c.loop-shard.before c.in_err-before.field-0.0 c.loop-shard-test.true c.loop-shard.invariant.behind c.in_err-before.ensures.err)

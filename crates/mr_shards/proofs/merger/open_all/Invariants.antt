@@ -1,18 +1,13 @@
-use Rattle.std.proofs.Common.{◌≡◌, ◌++◌, take, drop, map}
-use Rattle.std.specs.List.{AllByRecursion}
-use Rattle.mr_shards.specs.Cursors.{IsHeadFor, left}
-use Rattle.std.proofs.Common.{length}
-use Rattle.mr_shards.specs.Refused.{AreRead, shift_before}
-use Rattle.mr_shards.specs.Outputs.{AreOpened, parts_in}
-use Rattle.mr_shards.specs.Portions.{no_shift, shifted_parts}
+use Rattle.std.proofs.Common.{◌≡◌, ◌<◌, length, ℕ, get_or}
+use Rattle.mr_shards.specs.declared.cursor.Cursor.{Cursor}
+use Rattle.mr_shards.specs.declared.cursor.Held.{Held}
+use Rattle.mr_shards.specs.declared.merger.Window.{Window}
+use Rattle.mr_shards.specs.Cursors.{IsOpen}
 use Rattle.mr_shards.proofs.merger.open_all.Given as goal
 
 abbrev pub invariant-loop-shard : goal.invariant-loop-shard
 invariant-loop-shard l = record {
-  kinds : AllByRecursion (IsHeadFor l.job) l.cursors.items;
-  opened : AreOpened l.job l.cursors.items (take l.shard l.outputs);
-  counted : length l.cursors.items ≡ l.shard;
-  read : AreRead l.job l.cursors.items l.outputs;
-  behind : l.before ≡ shift_before l.outputs l.shard;
-  lefts : map (left l.job) l.cursors.items ++ shifted_parts l.before (parts_in l.job (drop l.shard l.outputs)) ≡ shifted_parts no_shift (parts_in l.job l.outputs);
+  count : length l.cursors.items ≡ l.shard;
+  at : (i : ℕ) (h : Held) (w : Window) (c : Cursor) → i < l.shard
+      → IsOpen l.job (get_or l.held i h) (get_or l.windows i w).bytes.now (get_or l.windows i w).is_last (get_or l.cursors.items i c);
 }
