@@ -140,6 +140,12 @@ def shards_of(files, size, start=0):
 # ---- one shard, on whatever machine
 
 
+def heed_end(run):
+    """Fails if the run was ended."""
+    if not os.path.isdir(run.working):
+        raise Refused(f"the run was ended, or {os.uname().nodename} does not see {run.working}") from None
+
+
 def executed(run, *words):
     """Runs the program; what it prints, what it says of faults, and its status. It is killed when the run ends."""
     streams = {"stdout": subprocess.PIPE, "stderr": subprocess.PIPE, "text": True, "errors": "replace"}
@@ -149,8 +155,7 @@ def executed(run, *words):
             while printed is None:
                 with contextlib.suppress(subprocess.TimeoutExpired):
                     printed, faults = process.communicate(timeout=LOOK)
-                if not os.path.isdir(run.working):
-                    raise Refused("the run was ended")
+                heed_end(run)
             return printed, faults, process.returncode
         finally:
             if process.poll() is None:
@@ -223,8 +228,7 @@ def attempt(run, number, shard, stamps):
             raise Refused("its files changed while they were read; --resume takes them as they are then")
         os.rename(room, where)
     except OSError as fault:
-        if not os.path.isdir(run.working):
-            raise Refused("the run was ended") from None
+        heed_end(run)
         if not os.path.exists(os.path.join(where, "verdict")):
             raise Failed(f"{fault.filename}: {fault.strerror}") from None
         # Another attempt was faster.
@@ -299,18 +303,22 @@ def by_dask(run, tasks, asked, tell, ends):
         cluster = local.result()
     try:
         client = ends.enter_context(Client(cluster))
+        workers = set(client.nthreads())
     except OSError as fault:
         raise Failed(f"no Dask scheduler at {asked.dask}: {fault}") from None
+    if not workers:
+        tell("the Dask cluster has no worker yet")
     over = threading.Event()
     ends.callback(over.set)
-    threading.Thread(target=watch, args=(client, set(client.nthreads()), tell, over), daemon=True).start()
+    threading.Thread(target=watch, args=(client, workers, tell, over), daemon=True).start()
     futures = {client.submit(attempt_there, run, task, pure=False, retries=asked.tries - 1): task[0] for task in tasks}
     for future in as_completed(futures):
         number = futures.pop(future)
         try:
             outcome, why = future.result()
         except Exception as fault:
-            raise Failed(f"shard {number}: {fault}") from None
+            why = "the Dask scheduler is lost" if future.cancelled() else fault
+            raise Failed(f"shard {number}: {why}") from None
         if outcome == "refused":
             raise Refused(f"shard {number}: {why}")
         yield number, outcome
@@ -360,21 +368,22 @@ def sweep(out):
 
 
 def earlier_plan(asked, options):
-    """The plan of the run that this one resumes, of no shards where the folder holds none."""
+    """The shards of the run that this one resumes, each with its stamps; none where the folder holds none."""
     names = {name for name in os.listdir(asked.out) if not UNFINISHED.fullmatch(name)}
     shards = os.path.join(asked.out, "shards")
     if names <= {"plan.json", "shards"} and not (os.path.isdir(shards) and os.listdir(shards)):
-        return {"shards": [], "stamps": []}
+        return []
     if not asked.resume:
         raise Refused(f"{asked.out} is not empty; --resume goes on with what is there")
     try:
         with open(os.path.join(asked.out, "plan.json")) as file:
             plan = json.load(file)
-    except (OSError, ValueError):
+        begun, made = [*plan["options"]], list(zip(plan["shards"], plan["stamps"]))
+    except (OSError, ValueError, TypeError, LookupError):
         raise Refused(f"{asked.out} holds no run to resume: its plan.json can't be read") from None
-    if plan["options"] != options:
-        raise Refused(f"{asked.out} was begun with other options: {' '.join(map(str, plan['options']))}")
-    return plan
+    if begun != options:
+        raise Refused(f"{asked.out} was begun with other options: {' '.join(map(str, begun))}")
+    return made
 
 
 def begin(run, asked):
@@ -386,10 +395,14 @@ def begin(run, asked):
             raise Refused(f"{asked.behind} does not end at a line's end of {asked.files[0]}")
         start = inputs[-1][1]
     for name in asked.files:
+        if re.search("[\n\udc80-\udcff]", name):
+            raise Refused(f"{name!r} is not UTF-8, or has a line feed")
         if not stat.S_ISREG(os.stat(name).st_mode):
             raise Refused(f"{name} is no regular file")
     if len(set(asked.files)) < len(asked.files):
         raise Refused("a file is named twice")
+    if asked.inputs:
+        os.stat(asked.inputs)
     shards = shards_of(asked.files, asked.shard_size, start)
     plan = {"options": options, "shards": shards, "stamps": [stamps_of(run, shard[0]) for shard in shards]}
     os.makedirs(run.out, exist_ok=True)
@@ -398,7 +411,7 @@ def begin(run, asked):
     os.mkdir(run.working)
     os.makedirs(os.path.join(run.out, "shards"), exist_ok=True)
     planned = list(zip(shards, plan["stamps"]))
-    for number, made in enumerate(zip(earlier["shards"], earlier["stamps"])):
+    for number, made in enumerate(earlier):
         where = os.path.join(run.out, "shards", f"{number:06}")
         if (number >= len(planned) or made != planned[number]) and os.path.exists(where):
             os.rename(where, os.path.join(run.working, f"{number:06}-stale"))
@@ -489,8 +502,16 @@ def job_of(asked):
 
 
 def main():
+    sys.stderr = sys.stderr or open(os.devnull, "w")
     asked = words()
-    tell = lambda line: print(line, file=sys.stderr, flush=True)
+
+    def tell(line):
+        try:
+            print(line, file=sys.stderr, flush=True)
+        except OSError:
+            # A run goes on where nobody can read how far it is.
+            sys.stderr = open(os.devnull, "w")
+
     ending = [number for number in (signal.SIGINT, signal.SIGTERM, signal.SIGHUP) if signal.getsignal(number) != signal.SIG_IGN]
 
     def end(number, _):

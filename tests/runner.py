@@ -144,6 +144,9 @@ def refused(harness):
         ("a folder", 2, [*WORDS, "f0", "."]),
         ("a file that is named twice", 2, [*WORDS, "f0", "f1", "f0"]),
         ("a verdict that isn't there", 3, [*WORDS, "--behind", "missing", "f0"]),
+        ("a list that isn't there", 3, [*WORDS, "--inputs", "missing", "f0"]),
+        ("a name that is not UTF-8", 2, [*WORDS, "f0", "\udcff"]),
+        ("a name with a line feed", 2, [*WORDS, "f0", "f\n1"]),
     ):
         got = by_runner(harness.program, words, where)
         harness.check(name, got[:2] == (status, b"") and b"shards.py: " in got[2].splitlines()[-1] and not os.path.exists(os.path.join(where, "out")), repr(got))
@@ -158,6 +161,21 @@ def refused(harness):
     harness.directory({"of-another": b""}, os.mkdir(os.path.join(where, "out")) or os.path.join(where, "out"))
     got = by_runner(harness.program, ["--resume", *WORDS, *given], where)
     harness.check("a folder of something else", got[:2] == (2, b"") and os.listdir(os.path.join(where, "out")) == ["of-another"], repr(got))
+    for plan in (b"{}", b"[]", b'{"options": 1}', b'{"options": [], "shards": 1, "stamps": []}'):
+        harness.directory({"plan.json": plan}, os.path.join(where, "out"))
+        got = by_runner(harness.program, ["--resume", *WORDS, *given], where)
+        harness.check(f"a plan that is {plan}", got[:2] == (2, b"") and b"no run to resume" in got[2], repr(got))
+
+
+def unread(harness):
+    """What the runner tells may go where nobody can read it; names may have spaces, tabs and a dash in front."""
+    given = {name: b"the cat\n" for name in ("a b", " a", "a ", "a\tb", "-a")}
+    whole = by_seq(harness, WORDS, {"all": b"".join(given.values())})
+    for stream in ("2>/dev/full", "2>&-"):
+        where = harness.directory(given)
+        words = ["sh", "-c", f'exec "$@" {stream}', "sh", sys.executable, RUNNER, "--program", harness.program, "--out", "out"]
+        got = subprocess.run([*words, *WORDS, "--progress", "--shard-size", "5", "--", *given], cwd=where, capture_output=True)
+        harness.check(f"a runner with {stream}", got.returncode == 0 and got.stdout.startswith(b"merged: ") and is_whole(where, whole), repr(got))
 
 
 def stopped(harness):
@@ -203,6 +221,15 @@ def dask(harness):
     got = by_runner(losing, ["--resume", *words], where, python)
     good = got[0] == 0 and os.listdir(room) == ["worker"] and is_whole(where, by_seq(harness, WORDS, given))
     harness.check("by Dask, a worker killed", good and b"is lost" in got[2], repr(got[:2]) + got[2].decode()[-1500:])
+    address = f"tcp://127.0.0.1:{9000 + os.getpid() % 1000}"
+    scheduler = subprocess.Popen([python, "-m", "distributed.cli.dask_scheduler", "--host", address, "--no-dashboard"], cwd=room, stderr=subprocess.DEVNULL)
+    process = started(harness.program, ["--resume", *WORDS, "--dask", address, *given], harness.directory(given), python)
+    lines = [process.stderr.readline() for _ in range(2)]
+    scheduler.kill()
+    scheduler.wait()
+    told = process.communicate()[1]
+    good = process.returncode == 1 and lines[1] == b"the Dask cluster has no worker yet\n" and told.endswith(b"the Dask scheduler is lost\n")
+    harness.check("by Dask, the scheduler killed", good, repr((process.returncode, lines, told[-300:])))
 
 
-GROUPS = {"a runner": runner, "a runner's many shards": many, "a runner refuses": refused, "a runner is stopped": stopped, "a runner by Dask": dask}
+GROUPS = {"a runner": runner, "a runner's many shards": many, "a runner refuses": refused, "a runner that nobody reads": unread, "a runner is stopped": stopped, "a runner by Dask": dask}
