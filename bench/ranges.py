@@ -45,6 +45,11 @@ def shell(line):
     return subprocess.run(["bash", "-c", line], check=True, stdout=subprocess.PIPE, env={**os.environ, "LC_ALL": "C"}).stdout
 
 
+def counted_plainly(path, room):
+    """The lines of the words and their counts, by GNU tools."""
+    return shell(f"tr A-Z a-z < {path} | tr -cs 'a-z0-9\\200-\\377' '\\n' | sort -S 2G -T {room} | uniq -c | sed -n 's/^ *\\([0-9]*\\) \\(..*\\)$/\\2\\t\\1/p'")
+
+
 def runner(asked, room, name, job):
     """The seconds of the runner, and the folder of its result."""
     out = os.path.join(room, name)
@@ -88,7 +93,7 @@ def main():
     asked.file = large_file(asked.dir, int(asked.gb * 1e9))
     words = ["--job", "words", "--parts", "1"]
     seconds, out = runner(asked, asked.dir, "words", words)
-    told = shell(f"tr A-Z a-z < {asked.file} | tr -cs 'a-z0-9\\200-\\377' '\\n' | sort -S 2G -T {asked.dir} | uniq -c | sed -n 's/^ *\\([0-9]*\\) \\(..*\\)$/\\2\\t\\1/p'")
+    told = counted_plainly(asked.file, asked.dir)
     same = told == open(os.path.join(out, "part-00000"), "rb").read()
     print(f"words: {seconds:.1f} s, {'equal to' if same else 'OTHER THAN'} tr | sort | uniq -c")
     lines = ["--job", "grep", "--literal", "copy"]
