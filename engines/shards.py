@@ -61,6 +61,11 @@ class Signalled(KeyboardInterrupt):
     """A signal that ends the run. No `except Exception` of a library takes it."""
 
 
+def text_of(fault):
+    """What a fault of the system is, and of which file."""
+    return f"{fault.filename}: {fault.strerror}" if fault.filename else fault.strerror or str(fault)
+
+
 # ---- cutting
 
 
@@ -230,7 +235,7 @@ def attempt(run, number, shard, stamps):
     except OSError as fault:
         heed_end(run)
         if not os.path.exists(os.path.join(where, "verdict")):
-            raise Failed(f"{fault.filename}: {fault.strerror}") from None
+            raise Failed(text_of(fault)) from None
         # Another attempt was faster.
     finally:
         shutil.rmtree(room, ignore_errors=True)
@@ -388,7 +393,7 @@ def earlier_plan(asked, options):
 
 def begin(run, asked):
     """Plans the run: the shards, and for each the stamps of its files. Takes away what an earlier run made for another plan."""
-    start, options = 0, [*run.job, "--shard-size", asked.shard_size, *(["--behind", asked.behind] if asked.behind else [])]
+    start, inputs, options = 0, [], [*run.job, "--shard-size", asked.shard_size, *(["--behind", asked.behind] if asked.behind else [])]
     if asked.behind:
         inputs = inputs_of(asked.behind)
         if not inputs or inputs[-1][3] != asked.files[0] or inputs[-1][2] == "open":
@@ -401,9 +406,12 @@ def begin(run, asked):
             raise Refused(f"{name} is no regular file")
     if len(set(asked.files)) < len(asked.files):
         raise Refused("a file is named twice")
-    if asked.inputs:
-        os.stat(asked.inputs)
     shards = shards_of(asked.files, asked.shard_size, start)
+    if asked.inputs:
+        count = len(inputs) + sum(len(shard[0]) for shard in shards)
+        with open(asked.inputs, "rb") as file:
+            if sum(1 for _ in file) != count:
+                raise Refused(f"{asked.inputs} needs a line for each file, and for each range of a file that is cut: {count}")
     plan = {"options": options, "shards": shards, "stamps": [stamps_of(run, shard[0]) for shard in shards]}
     os.makedirs(run.out, exist_ok=True)
     earlier = earlier_plan(asked, options)
@@ -479,7 +487,7 @@ def words():
     parser.add_argument("--split", help="bytes of a split")
     parser.add_argument("--shard-size", type=size_of, default=size_of("256M"), metavar="SIZE", help="the most bytes of a shard, as 100M or 1G (256M)")
     parser.add_argument("--behind", metavar="VERDICT", help="the first FILE from where this verdict ends in it; its result is merged, too")
-    parser.add_argument("--inputs", metavar="LIST", help="what sha256sum told of all files; the merge compares")
+    parser.add_argument("--inputs", metavar="LIST", help="what sha256sum told of all files, if none is cut; the merge compares")
     parser.add_argument("--allow-empty", action="store_true", help="take no FILE at all")
     parser.add_argument("--processes", type=count_of, default=os.cpu_count(), metavar="N", help="shards at a time")
     parser.add_argument("--dask", nargs="?", const="", metavar="ADDRESS", help="by a Dask cluster: this one, or one of this machine")
@@ -529,7 +537,7 @@ def main():
         tell(f"shards.py: {fault}")
         return 2 if isinstance(fault, Refused) else 1
     except OSError as fault:
-        tell(f"shards.py: {fault.filename}: {fault.strerror}" if fault.filename else f"shards.py: {fault}")
+        tell(f"shards.py: {text_of(fault)}")
         return 3
     except Signalled as fault:
         tell("shards.py: stopped; --resume goes on")

@@ -1,5 +1,6 @@
 """The runner of engines/: the result of one execution, whatever is lost, damaged or stopped on the way; what it refuses; and what it
 leaves."""
+import hashlib
 import os
 import re
 import shutil
@@ -144,6 +145,7 @@ def refused(harness):
         ("a folder", 2, [*WORDS, "f0", "."]),
         ("a file that is named twice", 2, [*WORDS, "f0", "f1", "f0"]),
         ("a verdict that isn't there", 3, [*WORDS, "--behind", "missing", "f0"]),
+        ("a list of other files", 2, [*WORDS, "--inputs", "f1", "f0"]),
         ("a list that isn't there", 3, [*WORDS, "--inputs", "missing", "f0"]),
         ("a name that is not UTF-8", 2, [*WORDS, "f0", "\udcff"]),
         ("a name with a line feed", 2, [*WORDS, "f0", "f\n1"]),
@@ -161,8 +163,15 @@ def refused(harness):
     harness.directory({"of-another": b""}, os.mkdir(os.path.join(where, "out")) or os.path.join(where, "out"))
     got = by_runner(harness.program, ["--resume", *WORDS, *given], where)
     harness.check("a folder of something else", got[:2] == (2, b"") and os.listdir(os.path.join(where, "out")) == ["of-another"], repr(got))
+    for end, status in ((b"", 0), (b"another\n", 1)):
+        sums = b"".join(b"%s  %s\n" % (hashlib.sha256(data).hexdigest().encode(), name.encode()) for name, data in given.items())
+        where = harness.directory({**given, "f6": given["f6"] + end, "sums": sums})
+        got = by_runner(harness.program, ["--inputs", "sums", "--shard-size", "2K", *WORDS, *given], where)
+        there = os.path.exists(os.path.join(where, "out", "verdict"))
+        harness.check(f"sums of files, and {end} in one", got[0] == status and there == (status == 0), repr(got))
     for plan in (b"{}", b"[]", b'{"options": 1}', b'{"options": [], "shards": 1, "stamps": []}'):
-        harness.directory({"plan.json": plan}, os.path.join(where, "out"))
+        where = harness.directory(given)
+        harness.directory({"plan.json": plan, "of-another": b""}, os.mkdir(os.path.join(where, "out")) or os.path.join(where, "out"))
         got = by_runner(harness.program, ["--resume", *WORDS, *given], where)
         harness.check(f"a plan that is {plan}", got[:2] == (2, b"") and b"no run to resume" in got[2], repr(got))
 
