@@ -1,0 +1,10 @@
+pub mod CountLemmas
+pub mod GroupLemmas
+pub mod LawLemmas
+pub mod LeftOutLemmas
+pub mod LineLemmas
+pub mod NameLemmas
+pub mod PieceLemmas
+pub mod SieveLemmas
+pub mod TextLemmas
+pub mod WalkLemmas

@@ -1,0 +1,348 @@
+//! Walks over the records that a job reads, then over those that it leaves out, and prints.
+//!
+//! Invariant of a walk: the totals are those of the records so far, and their lines are put.
+ghost use Rattle.std.specs.Prelude.{◌≡◌, ◌≤◌, ◌<◌, ◌+◌, ◌^◌, ◌++◌, ◌∷◌, [], IfOk, OnOk, length};
+ghost use Rattle.std.specs.Prelude.{decimal};
+ghost use Rattle.std.specs.Prelude.{List, ℕ, ◌==◌, codes, if◌then◌else◌};
+ghost use Rattle.std.specs.List.{filter_map};
+ghost use Rattle.mr_input.specs.Files.{nth_file};
+ghost use Rattle.mr_jobs.specs.Emissions.{emissions};
+ghost use Rattle.mr_jobs.specs.Hits.{IsLine};
+ghost use Rattle.mr_splits.specs.Cut.{record_named, records_of};
+ghost use Rattle.mr_splits.specs.Named.{NamedRecord};
+ghost use Rattle.mr_splits.specs.Kept.{kept_records};
+ghost use Rattle.mr_store.specs.Devices.{Seen, with_bytes};
+ghost use Rattle.mr_explain.specs.Explained.{explanation, kept_of, left_out_of, line_at};
+ghost use Rattle.mr_explain.specs.Explained.{label_of as the_label};
+ghost use Rattle.mr_explain.specs.Explained.{summary_line};
+ghost use Rattle.mr_explain.specs.Group.{ForKey, group_values};
+ghost use Rattle.mr_explain.specs.Walking.{AreCounts, AreReady, Counts, HasWalked, IsCounted};
+ghost use Rattle.mr_explain.specs.Walking.{IsSieve, Passes, printed};
+
+use crate::counting::count_wanted;
+use crate::lines::{LineCount, put_head};
+use crate::piece::{put, send};
+use crate::query::{ExplainFault, Explained, Query, Totals, Wanted};
+use crate::sieve::sieve_of;
+use itoa::Buffer;
+use mr_bytes::RecordName;
+use mr_jobs::{Job, Mapper};
+use mr_splits::{KeptPlan, RecordAt};
+use mr_store::CountedWrite;
+use std::alloc::{AllocError, Global};
+
+/// What a walk over records maps them by, has counted, and has not written yet.
+#[derive(Drop)]
+struct Walk<'j, 's, 'i> {
+    mapper: Mapper<'j, 'i>,
+    sieve: Mapper<'s, 'i>,
+    totals: Totals,
+    lines: LineCount,
+    piece: Vec<u8>,
+}
+
+fn print_record<W: CountedWrite>(
+    query: &Query<'_>,
+    prefix: &[u8],
+    walk: &mut Walk<'_, '_, '_>,
+    line: RecordAt<'_>,
+    writer: &mut W,
+) -> Result<(), ExplainFault>
+    requires line { IsLine query.now.plan.now.files line.file line.start line.bytes.now }
+    requires one_each { length query.now.sources.now ≡ length query.now.plan.now.files }
+    requires counted { IsCounted query.now.plan.now.files walk.old.lines }
+    ensures mappers { (walk.new.mapper ≡ walk.old.mapper) × (walk.new.sieve ≡ walk.old.sieve) }
+    ensures totals { walk.new.totals ≡ walk.old.totals }
+    ensures counted { OnOk result (IsCounted query.now.plan.now.files walk.new.lines) }
+    ensures put { OnOk result (Passes (W.seen writer.old) walk.old.piece.items
+        (W.seen writer.new) walk.new.piece.items
+        (prefix.now ++ line_at query.now.sources.now query.now.plan.now.files
+        line.entry.file line.entry.start line.entry.bytes.now)) }
+{
+    let start = line.start as usize;
+    let feeds = walk.lines.before(query.plan.input(), line.file, start);
+    let source = query.sources[line.file as usize];
+    put(writer, &mut walk.piece, prefix)?;
+    put_head(source, feeds, line.start, &mut walk.piece)?;
+    put(writer, &mut walk.piece, line.bytes)?;
+    put(writer, &mut walk.piece, b"\n")
+}
+
+/// Counts the record, and prints it, if it is looked for.
+fn take_record<W: CountedWrite>(
+    query: &Query<'_>,
+    prefix: &[u8],
+    walk: &mut Walk<'_, '_, '_>,
+    line: RecordAt<'_>,
+    writer: &mut W,
+) -> Result<(), ExplainFault>
+    requires small { length line.bytes.now ≤ 2 ^ 30 }
+    requires line { IsLine query.now.plan.now.files line.file line.start line.bytes.now }
+    requires one_each { length query.now.sources.now ≡ length query.now.plan.now.files }
+    requires ready { AreReady query.now walk.old.mapper walk.old.sieve }
+    requires counted { IsCounted query.now.plan.now.files walk.old.lines }
+    requires few { (walk.old.totals.pairs < 2 ^ 63) × (walk.old.totals.records < 2 ^ 63) }
+    ensures mappers { OnOk result ((walk.new.mapper ≡ walk.old.mapper)
+        × (walk.new.sieve ≡ walk.old.sieve)) }
+    ensures counted { OnOk result (IsCounted query.now.plan.now.files walk.new.lines) }
+    ensures counts { OnOk result (Counts query.now.wanted
+        (emissions query.now.job.now line.entry.file line.entry.start line.entry.bytes.now)
+        walk.old.totals walk.new.totals) }
+    ensures few { OnOk result (walk.new.totals.pairs ≤ walk.old.totals.pairs + 2 ^ 31) }
+    ensures put { OnOk result (Passes (W.seen writer.old) walk.old.piece.items
+        (W.seen writer.new) walk.new.piece.items
+        (printed query.now prefix.now walk.old.totals.records
+        line.entry.file line.entry.start line.entry.bytes.now)) }
+{
+    let Some(pairs) = count_wanted(&mut walk.mapper, &mut walk.sieve, query.wanted, line)? else {
+        return Ok(());
+    };
+    let Totals {
+        pairs: before,
+        records,
+    } = walk.totals;
+    walk.totals = Totals {
+        pairs: before + pairs,
+        records: records + 1,
+    };
+    if records < query.limit {
+        return print_record(query, prefix, walk, line, writer);
+    }
+    Ok(())
+}
+
+/// Walks over the records that the job reads, from the first one on.
+fn walk_kept<W: CountedWrite>(
+    query: &Query<'_>,
+    kept: &KeptPlan<'_>,
+    walk: &mut Walk<'_, '_, '_>,
+    writer: &mut W,
+) -> Result<(), ExplainFault>
+    requires kept { kept.now ≡ record { cut = query.now.plan.now; skips = query.now.skips.now } }
+    requires one_each { length query.now.sources.now ≡ length query.now.plan.now.files }
+    requires ready { AreReady query.now walk.old.mapper walk.old.sieve }
+    requires counted { IsCounted query.now.plan.now.files walk.old.lines }
+    requires none { walk.old.totals ≡ record { pairs = 0; records = 0 } }
+    ensures mappers { OnOk result ((walk.new.mapper ≡ walk.old.mapper)
+        × (walk.new.sieve ≡ walk.old.sieve)) }
+    ensures counted { OnOk result (IsCounted query.now.plan.now.files walk.new.lines) }
+    ensures walked { OnOk result (HasWalked query.now [] (kept_of query.now) walk.new.totals
+        (W.seen writer.old) walk.old.piece.items (W.seen writer.new) walk.new.piece.items) }
+{
+    // An input has far fewer records than a count can tell.
+    let _few = kept.plan().count();
+    let mut left = kept.records();
+    while let Some((_, line)) = left.next() {
+        take_record(query, b"", walk, line, writer)?;
+    }
+    Ok(())
+}
+
+/// Takes the record of that name, if there is one.
+fn take_left_out<W: CountedWrite>(
+    query: &Query<'_>,
+    name: RecordName,
+    walk: &mut Walk<'_, '_, '_>,
+    writer: &mut W,
+) -> Result<(), ExplainFault>
+    requires one_each { length query.now.sources.now ≡ length query.now.plan.now.files }
+    requires ready { AreReady query.now walk.old.mapper walk.old.sieve }
+    requires counted { IsCounted query.now.plan.now.files walk.old.lines }
+    requires few { (walk.old.totals.pairs < 2 ^ 63) × (walk.old.totals.records < 2 ^ 63) }
+    ensures mappers { OnOk result ((walk.new.mapper ≡ walk.old.mapper)
+        × (walk.new.sieve ≡ walk.old.sieve)) }
+    ensures counted { OnOk result (IsCounted query.now.plan.now.files walk.new.lines) }
+    ensures few { OnOk result ((walk.new.totals.pairs ≤ walk.old.totals.pairs + 2 ^ 31)
+        × (walk.new.totals.records ≤ walk.old.totals.records + 1)) }
+    ensures walked { OnOk result ((done : List NamedRecord) (start : Seen) (held : List ℕ)
+        → HasWalked query.now (codes "left out:") done walk.old.totals start held
+        (W.seen writer.old) walk.old.piece.items
+        → HasWalked query.now (codes "left out:")
+        (done ++ filter_map (record_named (records_of query.now.plan.now)) (name ∷ []))
+        walk.new.totals start held (W.seen writer.new) walk.new.piece.items) }
+{
+    if !query.plan.has_record(name) {
+        return Ok(());
+    }
+    let line = query.plan.locate(name.split, name.rec);
+    take_record(query, b"left out:", walk, line, writer)?;
+    Ok(())
+}
+
+/// Walks over the records that are left out, in the order of their names.
+fn walk_left_out<W: CountedWrite>(
+    query: &Query<'_>,
+    walk: &mut Walk<'_, '_, '_>,
+    writer: &mut W,
+) -> Result<(), ExplainFault>
+    requires few { length query.now.skips.now < 2 ^ 32 }
+    requires one_each { length query.now.sources.now ≡ length query.now.plan.now.files }
+    requires ready { AreReady query.now walk.old.mapper walk.old.sieve }
+    requires counted { IsCounted query.now.plan.now.files walk.old.lines }
+    requires none { walk.old.totals ≡ record { pairs = 0; records = 0 } }
+    ensures walked { OnOk result
+        (HasWalked query.now (codes "left out:") (left_out_of query.now) walk.new.totals
+        (W.seen writer.old) walk.old.piece.items (W.seen writer.new) walk.new.piece.items) }
+{
+    for name in query.skips {
+        take_left_out(query, *name, walk, writer)?;
+    }
+    Ok(())
+}
+
+fn put_number<W: CountedWrite>(
+    number: u64,
+    piece: &mut Vec<u8>,
+    writer: &mut W,
+) -> Result<(), ExplainFault>
+    ensures { OnOk result (Passes (W.seen writer.old) piece.old.items
+        (W.seen writer.new) piece.new.items (decimal number)) }
+{
+    let mut digits = Buffer::new();
+    put(writer, piece, digits.format(number).as_bytes())
+}
+
+fn put_summary<W: CountedWrite>(
+    label: &[u8],
+    totals: Totals,
+    piece: &mut Vec<u8>,
+    writer: &mut W,
+) -> Result<(), ExplainFault>
+    ensures { OnOk result (Passes (W.seen writer.old) piece.old.items
+        (W.seen writer.new) piece.new.items
+        (summary_line label.now totals.pairs totals.records)) }
+{
+    put(writer, piece, label)?;
+    put(writer, piece, b": ")?;
+    put_number(totals.pairs, piece, writer)?;
+    put(writer, piece, b" pairs in ")?;
+    put_number(totals.records, piece, writer)?;
+    put(writer, piece, b" records\n")
+}
+
+/// Puts the summary of the left-out records, unless none of them is looked for.
+fn put_left_out<W: CountedWrite>(
+    totals: Totals,
+    piece: &mut Vec<u8>,
+    writer: &mut W,
+) -> Result<(), ExplainFault>
+    ensures { OnOk result (Passes (W.seen writer.old) piece.old.items
+        (W.seen writer.new) piece.new.items
+        (if totals.records == 0 then []
+        else summary_line (codes "left out") totals.pairs totals.records)) }
+{
+    if totals.records == 0 {
+        return Ok(());
+    }
+    put_summary(b"left out", totals, piece, writer)
+}
+
+/// Walks over the kept records and prints their summary, then over those that are left out, whose
+/// summary is printed if one of them is looked for.
+fn walk_all<W: CountedWrite>(
+    query: &Query<'_>,
+    kept: &KeptPlan<'_>,
+    walk: &mut Walk<'_, '_, '_>,
+    writer: &mut W,
+) -> Result<Explained, ExplainFault>
+    requires kept { kept.now ≡ record { cut = query.now.plan.now; skips = query.now.skips.now } }
+    requires few { length query.now.skips.now < 2 ^ 32 }
+    requires one_each { length query.now.sources.now ≡ length query.now.plan.now.files }
+    requires ready { AreReady query.now walk.old.mapper walk.old.sieve }
+    requires counted { IsCounted query.now.plan.now.files walk.old.lines }
+    requires none { walk.old.totals ≡ record { pairs = 0; records = 0 } }
+    ensures kept { IfOk result
+        (λ r. AreCounts query.now.job.now query.now.wanted (kept_of query.now) r.kept) }
+    ensures left_out { IfOk result
+        (λ r. AreCounts query.now.job.now query.now.wanted (left_out_of query.now) r.left_out) }
+    ensures put { OnOk result (Passes (W.seen writer.old) walk.old.piece.items
+        (W.seen writer.new) walk.new.piece.items
+        (explanation query.now)) }
+{
+    walk_kept(query, kept, walk, writer)?;
+    let of_kept = walk.totals;
+    put_summary(label_of(query.wanted), of_kept, &mut walk.piece, writer)?;
+    walk.totals = NONE;
+    walk_left_out(query, walk, writer)?;
+    let of_left_out = walk.totals;
+    put_left_out(of_left_out, &mut walk.piece, writer)?;
+    Ok(Explained {
+        kept: of_kept,
+        left_out: of_left_out,
+    })
+}
+
+const NONE: Totals = Totals {
+    pairs: 0,
+    records: 0,
+};
+
+fn label_of(wanted: Wanted<'_>) -> &[u8]
+    ensures { result.now ≡ the_label wanted.entry }
+{
+    match wanted {
+        Wanted::Key(key) => key,
+        Wanted::Nothing => b"nothing",
+    }
+}
+
+/// Writes the kept records that are looked for, in the order of the input, each once, up to the
+/// limit, as `FILE:LINE:OFFSET:record` and LF; then `KEY: N pairs in M records` and LF, with
+/// `nothing` as the key of those that give nothing. The left-out records that are looked for follow
+/// likewise, each line behind `left out:`, with `left out` as the key; nothing if there are none.
+/// The limit bounds neither N nor M. The caller flushes. Fails if a call of the writer failed, or
+/// for want of memory.
+pub fn explain<W: CountedWrite>(
+    alloc: Global,
+    query: &Query<'_>,
+    writer: &mut W,
+) -> Result<Explained, ExplainFault>
+    requires few { length query.now.skips.now < 2 ^ 32 }
+    requires one_each { length query.now.sources.now ≡ length query.now.plan.now.files }
+    ensures kept { IfOk result
+        (λ r. AreCounts query.now.job.now query.now.wanted (kept_of query.now) r.kept) }
+    ensures left_out { IfOk result
+        (λ r. AreCounts query.now.job.now query.now.wanted (left_out_of query.now) r.left_out) }
+    ensures count { IfOk result (λ r. ForKey query.now.wanted
+        (λ key. r.kept.pairs ≡ length (group_values query.now key))) }
+    ensures written { OnOk result
+        (W.seen writer.new ≡ with_bytes (W.seen writer.old) (explanation query.now)) }
+{
+    let kept = query.plan.without(alloc, query.skips)?;
+    let found = sieve_of(alloc, query.job, query.wanted)?;
+    match &found {
+        Some(sieve) => explain_with(alloc, query, &kept, sieve, writer),
+        None => explain_with(alloc, query, &kept, query.job, writer),
+    }
+}
+
+fn explain_with<W: CountedWrite>(
+    alloc: Global,
+    query: &Query<'_>,
+    kept: &KeptPlan<'_>,
+    sieve: &Job,
+    writer: &mut W,
+) -> Result<Explained, ExplainFault>
+    requires kept { kept.now ≡ record { cut = query.now.plan.now; skips = query.now.skips.now } }
+    requires few { length query.now.skips.now < 2 ^ 32 }
+    requires one_each { length query.now.sources.now ≡ length query.now.plan.now.files }
+    requires sieve { IsSieve query.now.job.now query.now.wanted sieve.now }
+    ensures kept { IfOk result
+        (λ r. AreCounts query.now.job.now query.now.wanted (kept_of query.now) r.kept) }
+    ensures left_out { IfOk result
+        (λ r. AreCounts query.now.job.now query.now.wanted (left_out_of query.now) r.left_out) }
+    ensures written { OnOk result
+        (W.seen writer.new ≡ with_bytes (W.seen writer.old) (explanation query.now)) }
+{
+    let input = query.plan.input();
+    let mut walk = Walk {
+        mapper: query.job.mapper(alloc, input),
+        sieve: sieve.mapper(alloc, input),
+        totals: NONE,
+        lines: LineCount::new(),
+        piece: Vec::new(alloc),
+    };
+    let explained = walk_all(query, kept, &mut walk, writer)?;
+    send(writer, &mut walk.piece)?;
+    Ok(explained)
+}

@@ -1,0 +1,152 @@
+//! The text of a key's group, made from the records that give the key.
+//!
+//! A walk over the kept records, which maps only those that contain the key's bytes. Values come in
+//! the order of the input, as a result has them, and are not stored.
+//! Invariant: the text is that of the values so far, except for its end.
+ghost use Rattle.std.specs.Prelude.{◌≡◌, ℕ, ◌+◌, ◌≤◌, ◌<◌, ◌^◌, ◌++◌, ◌∷◌, [], IfOk, List, OnOk};
+ghost use Rattle.std.specs.Prelude.{if◌then◌else◌, length};
+ghost use Rattle.std.specs.Str.{bytes_eq};
+ghost use Rattle.mr_bytes.specs.declared.Value.{Value as Emitted};
+ghost use Rattle.mr_jobs.specs.Hits.{IsLine};
+ghost use Rattle.mr_jobs.specs.JobSpec.{JobSpec};
+ghost use Rattle.mr_jobs.specs.Emissions.{emissions};
+ghost use Rattle.mr_jobs.specs.Pairs.{pairs_of};
+ghost use Rattle.mr_sequential.specs.Names.{triples_of};
+ghost use Rattle.mr_sequential.specs.Sequential.{values_of};
+ghost use Rattle.mr_explain.specs.Group.{expected_text, group_values, values_with};
+ghost use Rattle.mr_explain.specs.Texts.{HasText};
+ghost use Rattle.mr_explain.specs.Walking.{IsSieveFor};
+
+use crate::counting::has_none;
+use crate::query::{Query, Wanted};
+use crate::sieve::sieve_of;
+use mr_bytes::Value;
+use mr_jobs::{Job, LinePairs, Mapper};
+use mr_reduce::TextWriter;
+use mr_splits::{KeptPlan, RecordAt};
+use std::alloc::{AllocError, Global};
+
+/// The text of a key for some of its values, and how many these are.
+#[derive(Drop)]
+struct KeyText<'k> {
+    key: &'k [u8],
+    writer: TextWriter<'k>,
+    count: u64,
+    text: Vec<u8>,
+}
+
+/// Adds the value if its key is the one that is looked for.
+fn add_pair(found: &[u8], value: Value, to: &mut KeyText<'_>) -> Result<(), AllocError>
+    requires few { to.old.count + 1 < 2 ^ 64 }
+    ensures key { to.new.key ≡ to.old.key }
+    ensures few { OnOk result (to.new.count ≤ to.old.count + 1) }
+    ensures text { OnOk result ((job : JobSpec) (of : List ℕ) (values : List Emitted)
+        → HasText job of values to.old
+        → HasText job of
+        (values ++ (if bytes_eq found.now to.old.key.now then value ∷ [] else [])) to.new) }
+{
+    if found != to.key {
+        return Ok(());
+    }
+    to.writer.add(value, &mut to.text)?;
+    to.count += 1;
+    Ok(())
+}
+
+/// Adds the values of the pairs that have the key.
+fn add_values(pairs: LinePairs<'_>, to: &mut KeyText<'_>) -> Result<(), AllocError>
+    requires pairs { length (pairs_of pairs) ≤ 2 ^ 31 }
+    requires few { to.old.count < 2 ^ 63 }
+    ensures key { to.new.key ≡ to.old.key }
+    ensures few { OnOk result (to.new.count ≤ to.old.count + 2 ^ 31) }
+    ensures text { OnOk result ((job : JobSpec) (of : List ℕ) (values : List Emitted)
+        → HasText job of values to.old
+        → HasText job of (values ++ values_with to.old.key.now (pairs_of pairs.entry)) to.new) }
+{
+    let mut left = pairs.emitter();
+    while let Some((found, value)) = left.next() {
+        add_pair(found, value, to)?;
+    }
+    Ok(())
+}
+
+/// Adds the values that a record has for the key.
+fn add_record(
+    mapper: &mut Mapper<'_, '_>,
+    sieve: &mut Mapper<'_, '_>,
+    line: RecordAt<'_>,
+    to: &mut KeyText<'_>,
+) -> Result<(), AllocError>
+    requires small { length line.bytes.now ≤ 2 ^ 30 }
+    requires line { IsLine mapper.old.files line.file line.start line.bytes.now }
+    requires sieve { IsSieveFor mapper.old.job to.old.key.now sieve.old.job }
+    requires files { sieve.old.files ≡ mapper.old.files }
+    requires few { to.old.count < 2 ^ 63 }
+    ensures same { (mapper.new ≡ mapper.old) × (sieve.new ≡ sieve.old) }
+    ensures key { to.new.key ≡ to.old.key }
+    ensures few { OnOk result (to.new.count ≤ to.old.count + 2 ^ 31) }
+    ensures text { OnOk result ((job : JobSpec) (of : List ℕ) (values : List Emitted)
+        → HasText job of values to.old
+        → HasText job of (values ++ values_with to.old.key.now
+        (emissions mapper.old.job line.entry.file line.entry.start line.entry.bytes.now)) to.new) }
+{
+    if has_none(sieve.emit(line.file, line.start, line.bytes)?) {
+        return Ok(());
+    }
+    add_values(mapper.emit(line.file, line.start, line.bytes)?, to)
+}
+
+fn text_with(
+    alloc: Global,
+    job: &Job,
+    kept: &KeptPlan<'_>,
+    sieve: &Job,
+    key: &[u8],
+) -> Result<Vec<u8>, AllocError>
+    requires { IsSieveFor job.now key.now sieve.now }
+    ensures { IfOk result (λ v. v.items
+        ≡ expected_text job.now key.now (values_of (triples_of job.now kept.now) key.now)) }
+{
+    let plan = kept.plan();
+    // A split has at least one byte, and an input far fewer records than a count can tell.
+    let (_size, _few) = (plan.size(), plan.count());
+    let mut mapper = job.mapper(alloc, plan.input());
+    let mut sieve = sieve.mapper(alloc, plan.input());
+    let mut text = Vec::new(alloc);
+    let writer = TextWriter::begin(job, key, &mut text)?;
+    let mut to = KeyText {
+        key,
+        writer,
+        count: 0,
+        text,
+    };
+    let mut left = kept.records();
+    while let Some((_, line)) = left.next() {
+        add_record(&mut mapper, &mut sieve, line, &mut to)?;
+    }
+    let KeyText {
+        key: _,
+        writer,
+        count,
+        mut text,
+    } = to;
+    if count == 0 {
+        return Ok(Vec::new(alloc));
+    }
+    writer.finish(&mut text)?;
+    Ok(text)
+}
+
+/// The text that a result has for the key, whatever the query looks for; nothing if no kept record
+/// gives it. It is what `compare` takes. Fails only for want of memory.
+pub fn group_text(alloc: Global, query: &Query<'_>, key: &[u8]) -> Result<Vec<u8>, AllocError>
+    ensures { IfOk result (λ v. v.items
+        ≡ expected_text query.now.job.now key.now (group_values query.now key.now)) }
+{
+    let kept = query.plan.without(alloc, query.skips)?;
+    let found = sieve_of(alloc, query.job, Wanted::Key(key))?;
+    match &found {
+        Some(sieve) => text_with(alloc, query.job, &kept, sieve, key),
+        None => text_with(alloc, query.job, &kept, query.job, key),
+    }
+}
