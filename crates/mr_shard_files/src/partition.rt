@@ -16,9 +16,9 @@ ghost use Rattle.mr_input.specs.Files.{contents};
 
 use crate::fault::ShardFault;
 use crate::merging::open_all;
+use crate::rounds::merge_partition;
 use crate::sharing::put_verdict;
 use crate::stream::Part;
-use crate::rounds::merge_partition;
 use mr_files::{Store, WriteFault, part_file, part_name};
 use mr_jobs::{Job, Request};
 use mr_shards::{FileNote, ShardFiles, Verdict, note_for};

@@ -1,10 +1,9 @@
 -- A round ends: what it took of each window.
-use Rattle.std.proofs.Common.{◌≡◌, ◌⊎◌, ℕ, zero, suc, ◌+◌, ◌-◌, ◌<◌, ◌≤◌, ◌++◌, List, [], ◌∷◌, length, get_or, drop, refl, ap, sym, ◌∙◌, subst, inl, inr, arith, Bool, true, false, ◌&&◌, Option, None, Some, map}
-use Rattle.std.specs.Prelude.{is_none, option_map}
+use Rattle.std.proofs.Common.{◌≡◌, ◌⊎◌, ℕ, zero, suc, ◌+◌, ◌-◌, ◌<◌, ◌++◌, List, [], ◌∷◌, length, get_or, drop, refl, ap, sym, ◌∙◌, subst, inl, inr, arith, Bool, true, false, ◌&&◌, Option, None, Some, map}
+use Rattle.std.specs.Prelude.{is_none}
 use Rattle.std.proofs.lemmas.List.{append_assoc, append-nil, drop-drop, length-append, length-drop, length-map}
 use Rattle.std.proofs.Math.Seq.{drop-append_seam}
 use Rattle.std.specs.List.{AllByRecursion}
-use Rattle.mr_bytes.specs.declared.Value.{Value}
 use Rattle.mr_jobs.specs.JobSpec.{JobSpec}
 use Rattle.mr_shards.specs.declared.cursor.Cursor.{Cursor}
 use Rattle.mr_shards.specs.declared.cursor.Held.{Held}
@@ -14,15 +13,14 @@ use Rattle.mr_shards.specs.declared.merger.Window.{Window}
 use Rattle.mr_shards.specs.Cursors.{AreEnded, IsHeadOf, IsSum, are_ended, headed, left, on, with_waiting}
 use Rattle.mr_shards.specs.Lines.{groups_in}
 use Rattle.mr_shards.specs.Merged.{Group, texts}
-use Rattle.mr_shards.specs.Portions.{merged_groups, merged_portions, shifted_group}
-use Rattle.mr_shards.specs.Outputs.{parts_in}
+use Rattle.mr_shards.specs.Portions.{merged_groups, shifted_group}
 use Rattle.mr_shards.specs.Refused.{text_at}
-use Rattle.mr_shards.specs.Rounds.{AreCounted, AreFurther, AreHeads, AreOpen, AreWindows, AreWithin, Goes, HasDry, HasDryHead, IsAfter, IsGoing, IsMerged, IsOneLine, IsWithin, Merges, OneGoes, Reading, Standing, Told, are_last, behind, cuts_at, extended, no_cut, no_held, outputs_of, pairs_held, taken_on, waits_with}
+use Rattle.mr_shards.specs.Rounds.{AreCounted, AreFurther, AreHeads, AreOpen, AreWindows, AreWithin, Goes, HasDry, HasDryHead, IsAfter, IsGoing, IsMerged, IsOneLine, IsWithin, Merges, OneGoes, Reading, Standing, are_last, cuts_at, extended, no_cut, no_held, outputs_of, pairs_held, taken_on}
 use Rattle.mr_shards.specs.Views.{IsWaitingFor, waits}
 use Rattle.mr_shards.proofs.LineLaws.{output-of_all}
 use Rattle.mr_shards.proofs.HeadLemmas.{cursor-at}
 use Rattle.mr_shards.proofs.LoopLemmas.{kept-end, none-left}
-use Rattle.mr_shards.proofs.RoundLemmas.{AreTexts, after-going, extended-length, going-opened, helds, mores, texts-count, windows-count}
+use Rattle.mr_shards.proofs.RoundLemmas.{AreTexts, after-going, going-opened, helds, mores, windows-count}
 
 -- ---- what was taken
 

@@ -15,7 +15,7 @@ use Rattle.mr_shards.specs.Cursors.{IsSum, all_pairs}
 use Rattle.mr_shards.specs.Lines.{groups_in}
 use Rattle.mr_shards.specs.Merged.{texts}
 use Rattle.mr_shards.specs.Outputs.{parts_in}
-use Rattle.mr_shards.specs.Portions.{merged_groups, merged_portions, shifted_group, shifted_parts}
+use Rattle.mr_shards.specs.Portions.{merged_groups, shifted_group, shifted_parts}
 use Rattle.mr_shards.specs.Refused.{Blames, IsReadTo, IsRest, IsShardText, PassesNot, TellsFiles, count_at, shift_from, text_at}
 use Rattle.mr_shards.specs.Rounds.{AreFresh, AreStanding, AreWindows, are_last, whole_window, IsAfter, IsReadUpTo, IsTooFar, IsWithin, Reading, Standing, Told, held_for, held_from, outputs_of, rests, shift_for}
 use Rattle.mr_shards.specs.Rounds.{behind as behind_of}

@@ -1,10 +1,8 @@
 -- The next line of an output, and what is held behind it.
-use Rattle.std.proofs.Common.{◌≡◌, ℕ, zero, suc, ◌+◌, ◌<◌, ◌≤◌, ◌^◌, ◌%◌, ◌++◌, List, [], ◌∷◌, length, refl, ap, sym, ◌∙◌, subst, inl, inr, arith, Bool, true, false, cond, nat_lt, Option, None, Some, map}
-use Rattle.std.proofs.lemmas.List.{append_assoc, append-nil, append_cancel_left, length-append, length-map, length-replicate}
+use Rattle.std.proofs.Common.{◌≡◌, ℕ, ◌+◌, ◌^◌, ◌%◌, ◌++◌, List, [], ◌∷◌, length, refl, ap, sym, ◌∙◌, subst, inl, inr, arith, Bool, cond, Option, None, Some, map}
+use Rattle.std.proofs.lemmas.List.{append_assoc, append_cancel_left, length-append, length-map, length-replicate}
 use Rattle.std.proofs.lemmas.Bool.{cases_lt, lt-ltb, le-ltb}
-use Rattle.std.specs.Borrow.{Bor}
 use Rattle.std.specs.List.{AllByRecursion}
-use Rattle.mr_bytes.specs.declared.Value.{Value}
 use Rattle.mr_jobs.specs.JobSpec.{JobSpec, WordCount, LinesWith, Resources, InvertedIndex}
 use Rattle.mr_shards.specs.declared.cursor.Cursor.{Cursor}
 use Rattle.mr_shards.specs.declared.cursor.Held.{Held}
@@ -12,7 +10,7 @@ use Rattle.mr_shards.specs.declared.line.Line.{Line}
 use Rattle.mr_shards.specs.declared.merger.MergeFault.{MergeFault}
 use Rattle.mr_shards.specs.declared.line.Tally.{Tally}
 use Rattle.mr_shards.specs.declared.line.Tally.TheVariants.{Total, Place, Files}
-use Rattle.mr_shards.specs.Cursors.{BlamesNext, HasFront, HeadFollows, IsAtLine, IsSum, IsWholeHead, all_pairs, on, pairs_in, pairs_told, passed, passed_with, with_pairs}
+use Rattle.mr_shards.specs.Cursors.{BlamesNext, HasFront, IsAtLine, IsSum, IsWholeHead, all_pairs, on, pairs_in, pairs_told, passed, passed_with, with_pairs}
 use Rattle.mr_shards.specs.Lines.{group_in, groups_in}
 use Rattle.mr_shards.specs.Merged.{Group, group_text, texts}
 use Rattle.mr_shards.specs.Portions.{Shift, shifted_group, shifted_value}
@@ -84,13 +82,14 @@ module _ (job : JobSpec) (h : Held) (text rest bytes : List ℕ) (is_last : Bool
     read = λ whole last r may.
         subst (λ (k : List ℕ). IsReadTo job whole (Some k) rest ((h.lines + 1) % 2 ^ 64)) (sym same-key)
         (read-line job whole last text h.lines line rest (some-bytes bytes rest text text_is) of first (subst (MayFollow job last) same-key may) r);
-    stands = λ r files.
-        (subst (λ (k : List ℕ). IsRest job (Some k) rest) (sym same-key) (rest-behind job text rest (group_of line) (some-bytes bytes rest text text_is) of first r),
-        (subst (AllByRecursion (λ (g : Group). AreInFiles h.count g.values)) read files).1);
+    stands = λ r files. (
+      subst (λ (k : List ℕ). IsRest job (Some k) rest) (sym same-key) (rest-behind job text rest (group_of line) (some-bytes bytes rest text text_is) of first r),
+      (subst (AllByRecursion (λ (g : Group). AreInFiles h.count g.values)) read files).1,
+    );
     behind = λ last may r. (
-          rest-before job last text line rest of first (subst (MayFollow job last) same-key may) (subst (λ (k : List ℕ). IsRest job (Some k) rest) same-key r.0),
-          subst (AllByRecursion (λ (g : Group). AreInFiles h.count g.values)) (sym read) (own, r.1),
-        );
+      rest-before job last text line rest of first (subst (MayFollow job last) same-key may) (subst (λ (k : List ℕ). IsRest job (Some k) rest) same-key r.0),
+      subst (AllByRecursion (λ (g : Group). AreInFiles h.count g.values)) (sym read) (own, r.1),
+    );
   }
 
 no-line : (job : JobSpec) (g : Group) (more : List ℕ) → IsLineOf job g → [] ≡ group_text job g ++ more → ⊥
@@ -122,10 +121,6 @@ at-end job h text rest is_last none end =
 pub pairs-cons : (job : JobSpec) (g : Group) (gs : List Group) → all_pairs job (g ∷ gs) ≡ pairs_in job g + all_pairs job gs
 unfolding all_pairs
 pairs-cons job g gs = refl
-
-pub pairs-none : (job : JobSpec) → all_pairs job [] ≡ 0
-unfolding all_pairs
-pairs-none job = refl
 
 one-moved : (job : JobSpec) (s : Shift) (g : Group) → pairs_in job (shifted_group s g) ≡ pairs_in job g
 one-moved (WordCount keep_case) s g = length-map g.values (shifted_value s)

@@ -25,7 +25,6 @@ use Rattle.mr_shards.specs.Merged.{group_text}
 use Rattle.std.proofs.Common.{not}
 use Rattle.mr_sequential.proofs.KeyLaws.{bytes_eq-is}
 use Rattle.std.specs.Str.{bytes_eq}
-use Rattle.std.proofs.Common.{Some}
 use Rattle.mr_shards.specs.Views.{BeginsWithLine, IsListTo, IsParsed, IsFor, IsUnshifted, IsWaitingFor, values_of}
 use Rattle.mr_shards.specs.declared.line.Tally.{Tally}
 use Rattle.mr_shards.specs.declared.line.Tally.TheVariants.{Total, Place, Files}
@@ -312,7 +311,7 @@ total-added job t some key m n total places is kind waits sum = by job (subst (I
     counted none =
         ap (λ (ps : List Value). replicate total One ++ ps) none ∙ append-nil (replicate total One) ∙ ap (λ k. replicate k One) sum
         ∙ sym (replicate-append-replicate m n One)
-            ∙ (λ i. sym (append-nil (replicate m One)) i ++ values_of (sym is i)) ∙ ap (λ (ps : List Value). (replicate m One ++ ps) ++ values_of t) (sym none)
+        ∙ (λ i. sym (append-nil (replicate m One)) i ++ values_of (sym is i)) ∙ ap (λ (ps : List Value). (replicate m One ++ ps) ++ values_of t) (sym none)
 
     by : (j : JobSpec) → IsFor j (Total n) → IsWaitingFor j (record { some = some; key = key; total = m; places = places })
         → replicate total One ++ places ≡ (replicate m One ++ places) ++ values_of t

@@ -1,6 +1,6 @@
 -- Lists that are made one by one.
-use Rattle.std.proofs.Common.{◌≡◌, ℕ, ◌+◌, ◌<◌, ◌≤◌, ◌++◌, List, [], ◌∷◌, length, get_or, take, ap, sym, ◌∙◌, map}
-use Rattle.std.proofs.lemmas.List.{map-append, take_all, take_more}
+use Rattle.std.proofs.Common.{◌≡◌, ℕ, ◌+◌, ◌<◌, ◌++◌, List, [], ◌∷◌, length, get_or, take, ap, sym, ◌∙◌, map}
+use Rattle.std.proofs.lemmas.List.{map-append, take_more}
 
 pub mapped-more : {X Y : Type 0} (f : X → Y) (xs : List X) (i : ℕ) (d : X) (ys : List Y) → i < length xs → ys ≡ map f (take i xs)
     → ys ++ f (get_or xs i d) ∷ [] ≡ map f (take (i + 1) xs)

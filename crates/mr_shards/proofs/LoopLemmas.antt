@@ -1,6 +1,6 @@
 -- What the merge keeps: what is written, with what waits and what is left, is the text of the merged parts.
-use Rattle.std.proofs.Common.{Bool, false, ◌≡◌, ℕ, ◌+◌, ◌<◌, ◌++◌, List, [], ◌∷◌, length, get_or, take, drop, refl, ap, sym, ◌∙◌, subst, inl, inr, arith, Option, None, Some, map}
-use Rattle.std.proofs.lemmas.List.{append_assoc, map-append, take_more, drop_more, length-append}
+use Rattle.std.proofs.Common.{Bool, false, ◌≡◌, ℕ, ◌<◌, ◌++◌, List, [], ◌∷◌, length, refl, ap, sym, ◌∙◌, subst, inl, inr, arith, Option, None, Some, map}
+use Rattle.std.proofs.lemmas.List.{append_assoc, length-append}
 use Rattle.std.proofs.lemmas.Cmp.{nat_list_cmp_total}
 use Rattle.std.specs.List.{AllByRecursion, flat_map}
 use Rattle.std.specs.Ordering.{match_ordering}
@@ -22,13 +22,12 @@ use Rattle.mr_shards.specs.Refused.{AreInFiles, AreRead, IsShardText}
 use Rattle.mr_shards.specs.Views.{group_of}
 use Rattle.mr_shards.specs.Cursors.{headed, left, IsHead, IsHeadFor, Goes, with_waiting}
 use Rattle.mr_shards.specs.Outputs.{parts_in, Stands}
-use Rattle.mr_shards.specs.Rounds.{IsBelow, Kept, Told}
+use Rattle.mr_shards.specs.Rounds.{IsBelow, Kept}
 use Rattle.mr_shards.proofs.MergedLaws.{keys, with_group-keys}
 use Rattle.mr_shards.proofs.MergeLemmas.{merged_groups-rise, with_group-joined, in_front}
 use Rattle.mr_shards.proofs.ReadingLemmas.{lines-none}
 use Rattle.mr_shards.proofs.TotalLemmas.{within-step}
-use Rattle.mr_shards.specs.Portions.{Shift, behind, past_shard, merged_groups, merged_portions, no_shift, shifted_group, shifted_parts}
-use Rattle.mr_shards.proofs.ShiftLemmas.{merged_at_once}
+use Rattle.mr_shards.specs.Portions.{behind, merged_groups, merged_portions, shifted_group}
 use Rattle.mr_shards.proofs.StepLemmas.{IsLeast, NotLess, NoneBefore, less-not, not_less-differs, turned, IsBest, Step, step-kinds, step-stands, step-pull, step-behind, step-at, merged-none_before}
 
 -- ---- the line that waits

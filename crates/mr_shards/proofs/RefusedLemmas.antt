@@ -2,7 +2,7 @@
 use Rattle.std.proofs.Common.{Result, Err, ◌≤◌, ◌≡◌, ℕ, zero, suc, ◌+◌, ◌<◌, ◌%◌, ◌^◌, ◌++◌, List, [], ◌∷◌, length, get_or, set, refl, ap, sym, ◌∙◌, subst, inl, inr, arith, Option, None, Some, map, replicate, take}
 use Rattle.std.proofs.lemmas.Bool.{cases_eq}
 use Rattle.std.proofs.lemmas.List.Sums.{sum_by-cons, sum_by-take-le}
-use Rattle.std.proofs.lemmas.List.{append_assoc, append-nil, append_cancel_left, get_or-set_same, get_or-set_other, get_or_append_left, get_or_at, length-set, length-replicate, length_push, get_or-map, take_more}
+use Rattle.std.proofs.lemmas.List.{append_assoc, append-nil, append_cancel_left, get_or-set_same, get_or-set_other, length-set, length-replicate, length_push}
 use Rattle.std.specs.Prelude.{IfErr}
 use Rattle.std.specs.List.{AllByRecursion}
 use Rattle.mr_bytes.specs.declared.Value.TheVariants.{One, At}
@@ -93,14 +93,6 @@ front-begins job text g more l e = record {
 pub none-begins : (job : JobSpec) (last : Option (List ℕ)) (text : List ℕ) → (BeginsWithLine job text → ⊥) → NoLineFollows job last text
 none-begins job last text none g more l follows e = none (front-begins job text g more l e)
 
--- and so one whose first line may not follow
-pub none-follows : (job : JobSpec) (last : Option (List ℕ)) (text : List ℕ) (line : Line) (rest : List ℕ)
-    → groups_in job text ≡ group_of line ∷ groups_in job rest → (MayFollow job last line.key.now → ⊥) → NoLineFollows job last text
-none-follows job last text line rest read not_next g more l follows e =
-    let whole : g ∷ groups_in job more ≡ group_of line ∷ groups_in job rest = sym (front-read job g more l) ∙ ap (groups_in job) (sym e) ∙ read in
-    let same : g ≡ group_of line = cc whole in
-    not_next (subst (MayFollow job last) (ap (λ (h : Group). h.key) same) follows)
-
 -- ---- lines that are read
 
 last-push : (last : Option (List ℕ)) (gs : List Group) (g : Group) → last_of last (gs ++ g ∷ []) ≡ Some g.key
@@ -171,12 +163,6 @@ bad-text job text line b r =
     (subst (λ (o : Option (List ℕ)). NoLineFollows job o b.rest) (sym (b.before.last_is b.some)) b.bad)
 
 -- ---- cursors and outputs
-
-pub text-at : (os : List ShardText) (i : ℕ) (d : ShardText) → i < length os → text_at os i ≡ (get_or os i d).text.now
-text-at os i d h = get_or-map (λ (o : ShardText). o.text.now) os i d [] h
-
-pub count-at : (os : List ShardText) (i : ℕ) (d : ShardText) → i < length os → count_at os i ≡ (get_or os i d).files.count
-count-at os i d h = get_or-map (λ (o : ShardText). o.files.count) os i d 0 h
 
 read-set : (job : JobSpec) (cs : List Cursor) (os : List ShardText) (at : ℕ) (one next : Cursor) → at < length cs → get_or cs at one ≡ one → AreRead job cs os
     → ((text : List ℕ) → IsReadOf job text one → IsReadOf job text next) → next.held.before ≡ one.held.before → next.held.count ≡ one.held.count → AreRead job (set cs at next) os

@@ -1,10 +1,9 @@
 -- Cursors over windows, whatever comes behind these.
-use Rattle.std.proofs.Common.{◌≡◌, ◌⊎◌, ℕ, zero, suc, ◌+◌, ◌-◌, ◌<◌, ◌≤◌, ◌++◌, List, [], ◌∷◌, length, get_or, set, drop, refl, ap, sym, ◌∙◌, subst, inl, inr, arith, Bool, true, false, ◌&&◌, Option, None, Some, map}
+use Rattle.std.proofs.Common.{◌≡◌, ℕ, zero, suc, ◌+◌, ◌<◌, ◌≤◌, ◌++◌, List, [], ◌∷◌, length, get_or, set, refl, ap, sym, ◌∙◌, subst, inl, inr, arith, Bool, true, false, Option, None, Some, map}
 use Rattle.std.specs.Prelude.{IfSome, sum_by}
 use Rattle.std.proofs.lemmas.List.Sums.{sum_by-cons}
 use Rattle.std.proofs.lemmas.Bool.{cases_eq}
-use Rattle.std.proofs.lemmas.List.{append_assoc, drop-drop, get_or-set_same, get_or-set_other, get_or_append_left, get_or_at, get_or-map, get_or_default, length-append, length-map, length-drop, length-set, set_at}
-use Rattle.std.proofs.Math.Seq.{drop-append_seam}
+use Rattle.std.proofs.lemmas.List.{append_assoc, get_or-set_same, get_or-set_other, get_or_append_left, get_or_at, get_or-map, get_or_default, length-append, length-map, length-set, set_at}
 use Rattle.std.specs.List.{AllByRecursion}
 use Rattle.mr_bytes.specs.Cut.{Lacks}
 use Rattle.mr_jobs.specs.JobSpec.{JobSpec}
@@ -16,11 +15,11 @@ use Rattle.mr_shards.specs.declared.merger.ShardText.{ShardText}
 use Rattle.mr_shards.specs.declared.merger.Window.{Window}
 use Rattle.mr_shards.specs.Cursors.{AreBehind, BlamesNext, DoesNotFall, Goes, HeadFollows, IsAdvanced, IsAtLine, IsFronted, IsHeadFor, IsHeadOf, IsOpen, IsSum, IsWholeHead, MayGoOn, NotBefore, ReadsOn, headed, left, least_from, lesser, on, passed, passed_with, pairs_told}
 use Rattle.mr_shards.specs.Lines.{NoneFalls, groups_in}
-use Rattle.mr_shards.specs.Merged.{Group, group_text}
+use Rattle.mr_shards.specs.Merged.{Group}
 use Rattle.mr_shards.specs.Outputs.{Stands}
 use Rattle.mr_shards.specs.Portions.{Shift, shifted_group}
 use Rattle.mr_shards.specs.Refused.{AreRead, Blames, Follows, IsReadAt, IsReadOf, IsReadTo, IsRest, IsRestOf, TakesNot, TellsFiles, last_key, text_at}
-use Rattle.mr_shards.specs.Rounds.{AreFurther, AreHeads, AreOpen, AreReadUpTo, AreStanding, AreWindows, HasDry, HasDryHead, IsAfter, IsAt, IsFurther, IsGoing, IsReadUpTo, IsStanding, IsWindow, IsWithin, Kept, Reading, Standing, Told, behind, extended, no_held, output_with, outputs_of, rests}
+use Rattle.mr_shards.specs.Rounds.{AreFurther, AreHeads, AreOpen, AreStanding, AreWindows, HasDry, HasDryHead, IsAfter, IsAt, IsFurther, IsGoing, IsReadUpTo, IsStanding, IsWindow, IsWithin, Reading, Standing, Told, behind, extended, no_held, output_with, outputs_of, rests}
 use Rattle.mr_shards.specs.Views.{IsFor, IsWaitingFor, group_of, waits}
 use Rattle.mr_shards.proofs.HeadLemmas.{cursor-at, sum-here, sum-moved, passed-before, passed-count, passed-lines, sum-behind, told-pairs}
 use Rattle.mr_shards.proofs.LoopLemmas.{goes-front, kept-step}
@@ -245,10 +244,6 @@ lefts-rests job (r ∷ rs) (c ∷ cs) f t a =
     a 0 c (omega arith) ∙ ap (λ (x : List ℕ). map (shifted_group c.held.before) (groups_in job x)) (sym t.1) in
     λ i. here i ∷ lefts-rests job rs cs (λ k. f (suc k)) t.2 (λ k d l. a (suc k) d (omega (arith, l))) i
 
--- what was read of each
-abbrev AreAllAt : JobSpec → List ShardText → List Cursor → (ℕ → List ℕ) → Type 0
-AreAllAt job os cs f = (i : ℕ) (d : Cursor) → i < length cs → IsAt job (text_at os i) (on (get_or cs i d) (f i)) × MayGoOn (get_or cs i d).is_last (f i)
-
 held-at : (cs : List Cursor) (i : ℕ) (h : Held) (d : Cursor) → i < length cs → get_or (helds cs) i h ≡ (get_or cs i d).held
 held-at cs i h d l = get_or-map (λ (c : Cursor). c.held) cs i d h l
 
@@ -405,17 +400,17 @@ going-opened job rs ws cs text m v all count a =
               (a.told (subst (λ (hs : List Held). AreStanding job hs rs) held (rests-stand job rs cs f texts lines s)));
         };
         at = λ i d l. (
-              record {
-                last = (up i d l).last;
-                read = read i d l;
-                follows = follow i d l;
-                left_is = lefts i d l;
-                stands = (lines i d l).stands;
-                pairs = sum-here job (get_or cs i d).held.pairs (get_or cs i d).held.before (left job (on (get_or cs i d) (f i))) (groups_in job ((get_or cs i d).text.now ++ f i)) (groups_in job (text_at os i))
-                    (lefts i d l) (subst (λ (t : List ℕ). IsSum job (get_or cs i d).held.pairs (groups_in job t) (groups_in job (text_at os i))) (is i d l) (up i d l).pairs);
-              },
-              may i d l,
-            );
+          record {
+            last = (up i d l).last;
+            read = read i d l;
+            follows = follow i d l;
+            left_is = lefts i d l;
+            stands = (lines i d l).stands;
+            pairs = sum-here job (get_or cs i d).held.pairs (get_or cs i d).held.before (left job (on (get_or cs i d) (f i))) (groups_in job ((get_or cs i d).text.now ++ f i)) (groups_in job (text_at os i))
+                (lefts i d l) (subst (λ (t : List ℕ). IsSum job (get_or cs i d).held.pairs (groups_in job t) (groups_in job (text_at os i))) (is i d l) (up i d l).pairs);
+          },
+          may i d l,
+        );
       },
       texts,
     )

@@ -1,8 +1,7 @@
 -- One step of the merge: the least line is taken, and what is left of its output read on.
-use Rattle.std.proofs.Common.{◌≡◌, ℕ, suc, ◌+◌, ◌<◌, ◌++◌, List, [], ◌∷◌, length, get_or, set, refl, ap, sym, ◌∙◌, subst, inl, inr, arith, Bool, true, false, cond, Option, None, Some, map}
-use Rattle.std.specs.Prelude.{IfSome, sum_by}
+use Rattle.std.proofs.Common.{◌≡◌, ℕ, ◌+◌, ◌<◌, ◌++◌, List, [], ◌∷◌, length, get_or, set, refl, ap, sym, ◌∙◌, subst, inl, inr, arith, Bool, true, false, cond, Option, None, Some, map}
+use Rattle.std.specs.Prelude.{IfSome}
 use Rattle.std.proofs.lemmas.List.{append-nil, append_assoc, map-append, get_or_at, set_at, length_push}
-use Rattle.std.proofs.lemmas.List.Sums.{sum_by-append, sum_by-cons}
 use Rattle.std.proofs.lemmas.Cmp.{nat_list_cmp_total, tied_itself}
 use Rattle.std.specs.List.{AllByRecursion}
 use Rattle.std.specs.Ordering.{is_lt, ordering_reverse}
@@ -17,8 +16,8 @@ use Rattle.mr_shards.specs.declared.cursor.Cursor.{Cursor}
 use Rattle.mr_shards.specs.declared.line.Line.{Line}
 use Rattle.mr_shards.specs.Merged.{Group, with_group, merged}
 use Rattle.mr_shards.specs.Lines.{groups_in, NoneFalls}
-use Rattle.mr_shards.specs.Views.{group_of, IsFor}
-use Rattle.mr_shards.specs.Cursors.{AreBehind, AreBeyond, Differs, HasFront, NotBefore, Past, least_from, lesser, headed, left, IsHead, IsHeadFor, DoesNotFall, ReadsOn}
+use Rattle.mr_shards.specs.Views.{group_of}
+use Rattle.mr_shards.specs.Cursors.{AreBeyond, Differs, NotBefore, Past, least_from, lesser, headed, left, IsHeadFor, DoesNotFall, ReadsOn}
 use Rattle.mr_shards.specs.Refused.{IsRestOf}
 use Rattle.mr_shards.specs.Outputs.{Stands}
 use Rattle.mr_shards.proofs.MergedLaws.{keys, merged-keys, with_keys-cases}
@@ -250,11 +249,6 @@ module _ (job : JobSpec) (old new : List Cursor) (line : Line) (s : Step job old
       let r = all-split (IsHeadFor job) s.front (s.one ∷ s.back) (subst (AllByRecursion (IsHeadFor job)) s.was all) in
       subst (AllByRecursion (IsHeadFor job)) (sym s.now) (all-append (IsHeadFor job) s.front (s.next ∷ s.back) r.0 (s.kind, r.1.1))
 
-  pub step-for : AllByRecursion (IsHeadFor job) old → IsFor job line.tally
-  step-for all =
-      let r = all-split (IsHeadFor job) s.front (s.one ∷ s.back) (subst (AllByRecursion (IsHeadFor job)) s.was all) in
-      (subst (λ (o : Option Line). IsHead job o s.one.rest.now) s.head r.1.0).0
-
   step-stands_one : Stands job s.next → Stands job s.one
   step-stands_one h = record {
     rest = s.behind h.rest;
@@ -308,32 +302,7 @@ module _ (job : JobSpec) (old new : List Cursor) (line : Line) (s : Step job old
       (subst (AllByRecursion (NoneBefore k)) (ap (map (left job)) s.was ∙ lefts-of s.front s.one s.back) all) in
       (subst (NoneBefore k) s.left_one r.1.0).0
 
-  pub step-less : sum_by (λ (c : Cursor). length (left job c)) new < sum_by (λ (c : Cursor). length (left job c)) old
-  step-less =
-      let size : Cursor → ℕ = λ c. length (left job c) in
-      let one : sum_by size old ≡ sum_by size s.front + (size s.one + sum_by size s.back) =
-      ap (sum_by size) s.was ∙ sum_by-append size s.front (s.one ∷ s.back) ∙ ap (λ n. sum_by size s.front + n) (sum_by-cons size s.one s.back) in
-      let two : sum_by size new ≡ sum_by size s.front + (size s.next + sum_by size s.back) =
-      ap (sum_by size) s.now ∙ sum_by-append size s.front (s.next ∷ s.back) ∙ ap (λ n. sum_by size s.front + n) (sum_by-cons size s.next s.back) in
-      let more : size s.one ≡ suc (size s.next) = ap length s.left_one in
-      omega (arith, one, two, more)
-
 -- ---- behind a step
-
-has-front : (job : JobSpec) (cs : List Cursor) (at : ℕ) (line : Line) → IsLeast cs at line → AllByRecursion (IsHeadFor job) cs → HasFront line
-has-front job cs at line b all =
-    let r = all-split (IsHeadFor job) b.front (b.one ∷ b.back) (subst (AllByRecursion (IsHeadFor job)) b.is all) in
-    (subst (λ (o : Option Line). IsHead job o b.one.rest.now) b.head r.1.0).1
-
--- the line that was taken is not behind any that is next, and before those in front of its place
-pub behind-step : (job : JobSpec) (at : ℕ) (old new : List Cursor) (line : Line) → IsLeast old at line → ReadsOn job at old new → AllByRecursion (IsHeadFor job) old
-    → AreBehind (Some (at, line)) new
-unfolding step-of
-behind-step job at old new line b r all =
-    let s : Step job old new line = step-of job at old new line b r in (
-      has-front job old at line b all,
-      record { front = b.front; back = s.next ∷ b.back; is = s.now; place = b.place; past = b.past; not_before = (s.order, b.not_before) },
-    )
 
 abbrev PastFound : Line → Option (ℕ × Line) → Type 0
 PastFound line None = Unit {0}

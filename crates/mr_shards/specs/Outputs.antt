@@ -7,9 +7,9 @@ use Rattle.mr_sequential.specs.Sequential.{sequential}
 use Rattle.mr_shards.specs.declared.cursor.Cursor.{Cursor}
 use Rattle.mr_shards.specs.declared.merger.ShardText.{ShardText}
 use Rattle.mr_shards.specs.Lines.{groups_in, NoneFalls}
-use Rattle.mr_shards.specs.Cursors.{IsHeadFor, left}
-use Rattle.mr_shards.specs.Refused.{AreRead, IsRestOf, IsShardText}
-use Rattle.mr_shards.specs.Portions.{AreCutAtLines, Part, Portion, no_shift, past_shard, shift_of, shifted_parts, whole_of}
+use Rattle.mr_shards.specs.Cursors.{left}
+use Rattle.mr_shards.specs.Refused.{IsRestOf}
+use Rattle.mr_shards.specs.Portions.{AreCutAtLines, Part, Portion, past_shard, shift_of, whole_of}
 use Rattle.mr_shards.specs.Spots.{SkipsExist, left_out_of}
 
 -- the part that an output is read as

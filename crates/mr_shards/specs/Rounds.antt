@@ -1,5 +1,5 @@
 -- Outputs of shards, merged in rounds over windows.
-use Rattle.std.specs.Prelude.{◌≡◌, ◌⊎◌, ℕ, zero, suc, ◌+◌, ◌-◌, ◌<◌, ◌≤◌, ◌^◌, Bool, true, false, ◌&&◌, List, [], ◌∷◌, ◌++◌, Option, None, Some, length, map, slice_index_or, take, drop}
+use Rattle.std.specs.Prelude.{◌≡◌, ◌⊎◌, ℕ, suc, ◌+◌, ◌-◌, ◌<◌, ◌≤◌, Bool, true, false, ◌&&◌, List, [], ◌∷◌, ◌++◌, Option, None, Some, length, map, slice_index_or, take, drop}
 use Rattle.std.specs.Str.{bytes_eq}
 use Rattle.std.specs.Prelude.{if◌then◌else◌}
 use Rattle.std.specs.List.{AllByRecursion}
@@ -14,11 +14,11 @@ use Rattle.mr_shards.specs.declared.merger.ShardText.{ShardText}
 use Rattle.mr_shards.specs.declared.merger.Window.{Window}
 use Rattle.mr_shards.specs.declared.shift.ShardFiles.{ShardFiles}
 use Rattle.mr_shards.specs.Cursors.{IsHeadFor, IsHeadOf, IsOpen, IsSum, MayGoOn, left, on, with_waiting}
-use Rattle.mr_shards.specs.Lines.{NoneFalls, groups_in, lines}
+use Rattle.mr_shards.specs.Lines.{NoneFalls, groups_in}
 use Rattle.mr_shards.specs.Merged.{Group, texts}
 use Rattle.mr_shards.specs.Outputs.{IsOutputOfAll, Stands, parts_in}
 use Rattle.mr_shards.specs.Portions.{Shift, behind as shift_behind, merged_groups, merged_portions, no_shift, past_shard, shifted_group}
-use Rattle.mr_shards.specs.Refused.{AreRead, Blames, BlamesOnly, Follows, IsReadTo, IsRest, IsRestOf, IsShardText, PassesNot, TellsFiles, count_at, shift_before, text_at, total_of, values_among}
+use Rattle.mr_shards.specs.Refused.{AreRead, Blames, Follows, IsReadTo, IsRest, IsRestOf, IsShardText, PassesNot, TellsFiles, count_at, shift_before, text_at, total_of, values_among}
 use Rattle.mr_shards.specs.Views.{IsWaitingFor, Waits, waits}
 
 -- what a merger keeps: of each shard what was taken, and what waits; and of the last round the text, and how many

@@ -54,8 +54,12 @@ pub struct Merger {
 impl Model for Merger {
     ghost Value = { Standing };
 
-    ghost view = { λ m. record { held = m.held.items; waiting = m.waiting; text = m.text.items;
-        cuts = m.cuts.items } };
+    ghost view = { λ m. record {
+      held = m.held.items;
+      waiting = m.waiting;
+      text = m.text.items;
+      cuts = m.cuts.items;
+    } };
 }
 
 impl Merger {
@@ -280,7 +284,10 @@ fn cuts_of(
 {
     let mut cuts = Vec::new(alloc);
     for at in 0..windows.len() {
-        let cut = windows[at].bytes.len().saturating_sub(cursors[at].text.len());
+        let cut = windows[at]
+            .bytes
+            .len()
+            .saturating_sub(cursors[at].text.len());
         keep_cut(&mut cuts, cut)?;
     }
     Ok(cuts)
@@ -368,7 +375,9 @@ fn keep_window<'a>(windows: &mut Vec<Window<'a>>, bytes: &'a [u8]) -> Result<(),
         ≡ windows.old.items ++ record { bytes = bytes.entry; is_last = true } ∷ []) }
 {
     let is_last = true;
-    windows.push(Window { bytes, is_last }).map_err(AllocError::from)?;
+    windows
+        .push(Window { bytes, is_last })
+        .map_err(AllocError::from)?;
     Ok(())
 }
 

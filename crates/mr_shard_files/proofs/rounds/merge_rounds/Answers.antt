@@ -1,4 +1,4 @@
-use Rattle.std.proofs.Common.{◌≡◌, ◌∙◌, ◌++◌, [], ap, refl, length, string_bytes, subst, sym, take}
+use Rattle.std.proofs.Common.{◌∙◌, ◌++◌, [], ap, refl, string_bytes, subst, sym, take}
 use Rattle.std.proofs.lemmas.Result.{err_from_is_err_and}
 use Rattle.mr_shard_files.specs.Made.{ReportsUnwritten}
 use Rattle.mr_shard_files.specs.Streams.{AllAre, AreHeld, Moves}

@@ -1,4 +1,4 @@
-use Rattle.std.proofs.Common.{◌≡◌, ◌++◌, ◌∷◌, [], ap, sym, ◌∙◌, List, ℕ, length, subst, refl, Option}
+use Rattle.std.proofs.Common.{◌≡◌, ◌++◌, ◌∷◌, ap, sym, ◌∙◌, List, ℕ, subst, refl, Option}
 use Rattle.std.specs.Prelude.{IfSome}
 use Rattle.mr_shards.specs.declared.cursor.Cursor.{Cursor}
 use Rattle.std.proofs.lemmas.Result.{err_from_is_err_and}
@@ -24,9 +24,11 @@ returns-then-not-may_follow-clause-err c = λ more may.
     let next = c.in-Some.next in
     let w = subst (IsHeadOf c.args.job.now next) c.in-Some-head.is o.head in
     let is : rest ++ more ≡ w.line ++ 10 ∷ (next.rest.now ++ more) = ap (λ (t : List ℕ). t ++ more) (sym o.text_is) ∙ head-text c.args.job.now next c.in-Some-head.line more w in
-    let last = last_key c.args.cursor.head in
-    (refl, ap (λ (h : Held). h.lines) c.held_behind-held.ensures ∙ passed-lines c.args.cursor.head c.args.cursor.held,
-    some-bytes w.line (next.rest.now ++ more) (rest ++ more) is,
-    λ g more' l follows e.
-    (let f = (o.at more may).first last (one-first c.args.job.now last (rest ++ more) g more' l e follows) in
-    cc (c.if-not-may_follow.ensures.turn.1 (subst (HeadFollows c.args.job.now last) c.in-Some-head.is f))))
+    let last = last_key c.args.cursor.head in (
+      refl,
+      ap (λ (h : Held). h.lines) c.held_behind-held.ensures ∙ passed-lines c.args.cursor.head c.args.cursor.held,
+      some-bytes w.line (next.rest.now ++ more) (rest ++ more) is,
+      λ g more' l follows e.
+          (let f = (o.at more may).first last (one-first c.args.job.now last (rest ++ more) g more' l e follows) in
+          cc (c.if-not-may_follow.ensures.turn.1 (subst (HeadFollows c.args.job.now last) c.in-Some-head.is f))),
+    )

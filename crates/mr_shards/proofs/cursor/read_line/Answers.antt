@@ -1,4 +1,4 @@
-use Rattle.std.proofs.Common.{◌≡◌, ◌++◌, ◌∷◌, [], ap, sym, ◌∙◌, List, ℕ, length, subst, eqb-true, refl, None}
+use Rattle.std.proofs.Common.{◌≡◌, ◌++◌, ◌∷◌, [], ap, sym, ◌∙◌, List, ℕ, length, eqb-true, refl, None}
 use Rattle.std.proofs.lemmas.Bool.{eqb-false}
 use Rattle.std.proofs.lemmas.List.{append_assoc, append-nil}
 use Rattle.std.proofs.lemmas.Result.{err_from_is_err_and}
@@ -8,7 +8,7 @@ use Rattle.mr_shards.specs.Refused.{BlamesOnly}
 use Rattle.mr_shards.specs.declared.merger.MergeFault.{MergeFault}
 use Rattle.mr_shards.proofs.CursorLemmas.{no_bytes}
 use Rattle.mr_shards.proofs.HeadLemmas.{at-end, at-line, bad-line, both-none, no-line-here, some-bytes}
-use Rattle.mr_shards.proofs.RefusedLemmas.{handed, none-begins, unmoved-line}
+use Rattle.mr_shards.proofs.RefusedLemmas.{handed, unmoved-line}
 use Rattle.mr_shards.proofs.cursor.read_line.Goals.{else-is_last-via-then-is_last+else-is_empty, else-is_last-via-else-is_last}
 use Rattle.mr_shards.proofs.cursor.read_line.Goals as goal
 
@@ -33,19 +33,26 @@ returns-then-is_empty-clause-some c =
 pub returns-then-is_last-2-clause-err : goal.returns-then-is_last-2-clause-err
 returns-then-is_last-2-clause-err c = λ more may.
     let none : more ≡ [] = may c.if-is_last-2.true in
-    let same : c.args.text.now ++ more ≡ c.args.text.now = ap (λ (t : List ℕ). c.args.text.now ++ t) none ∙ append-nil c.args.text.now in
-    (refl, refl, (λ e. elim c.else-is_last.branch [
-      | else-is_last-via-then-is_last+else-is_empty w ↦ some_bytes c.args.text.now (eqb-false (length c.args.text.now) 0 (sym w.is_empty.ensures ∙ w.if-is_empty.false)) (sym same ∙ e)
-      | else-is_last-via-else-is_last w ↦ cc (sym c.if-is_last-2.true ∙ w.if-is_last.false)
-    ]), λ g rest l follows e. no-line-here c.args.job.now c.args.text.now c.in_default.ensures g rest l (sym same ∙ e))
+    let same : c.args.text.now ++ more ≡ c.args.text.now = ap (λ (t : List ℕ). c.args.text.now ++ t) none ∙ append-nil c.args.text.now in (
+      refl,
+      refl,
+      (λ e. elim c.else-is_last.branch [
+        | else-is_last-via-then-is_last+else-is_empty w ↦ some_bytes c.args.text.now (eqb-false (length c.args.text.now) 0 (sym w.is_empty.ensures ∙ w.if-is_empty.false)) (sym same ∙ e)
+        | else-is_last-via-else-is_last w ↦ cc (sym c.if-is_last-2.true ∙ w.if-is_last.false)
+      ]),
+      λ g rest l follows e. no-line-here c.args.job.now c.args.text.now c.in_default.ensures g rest l (sym same ∙ e),
+    )
 
 pub returns-in_default-parse_line-clause-err : goal.returns-in_default-parse_line-clause-err
 returns-in_default-parse_line-clause-err c = λ more may.
     let line = c.in-Some.line.now in
     let rest = c.in-Some.rest.now in
-    let is : c.args.text.now ++ more ≡ line ++ 10 ∷ (rest ++ more) = ap (λ (t : List ℕ). t ++ more) c.in-Some.ensures.0 ∙ append_assoc line (10 ∷ rest) more in
-    (refl, refl, some-bytes line (rest ++ more) (c.args.text.now ++ more) is,
-    bad-line c.args.job.now None line (rest ++ more) (c.args.text.now ++ more) is (c.in_default-parse_line.ensures.none refl (rest ++ more)))
+    let is : c.args.text.now ++ more ≡ line ++ 10 ∷ (rest ++ more) = ap (λ (t : List ℕ). t ++ more) c.in-Some.ensures.0 ∙ append_assoc line (10 ∷ rest) more in (
+      refl,
+      refl,
+      some-bytes line (rest ++ more) (c.args.text.now ++ more) is,
+      bad-line c.args.job.now None line (rest ++ more) (c.args.text.now ++ more) is (c.in_default-parse_line.ensures.none refl (rest ++ more)),
+    )
 
 pub returns-in_err-line-clause-err : goal.returns-in_err-line-clause-err
 returns-in_err-line-clause-err c =

@@ -1,22 +1,20 @@
-use Rattle.std.proofs.Common.{◌≡◌, ◌∙◌, ◌++◌, [], ap, sym, subst, inl, inr, refl, arith, set, Some, None, ℕ, List, Option}
+use Rattle.std.proofs.Common.{◌≡◌, ◌∙◌, ◌++◌, ap, sym, subst, inl, inr, arith, set, Some, None, ℕ, List, Option}
 use Rattle.std.specs.Prelude.{IfSome}
 use Rattle.std.specs.List.{AllByRecursion}
 use Rattle.std.proofs.lemmas.List.{append-nil}
 use Rattle.std.proofs.lemmas.Result.{err_from_is_err_and}
 use Rattle.mr_shards.specs.declared.cursor.Cursor.{Cursor}
 use Rattle.mr_shards.specs.declared.line.Line.{Line}
-use Rattle.mr_shards.specs.declared.merger.MergeFault.{MergeFault}
-use Rattle.mr_shards.specs.declared.merger.ShardText.{ShardText}
 use Rattle.mr_shards.specs.Cursors.{AreBehind, BlamesNext, IsAdvanced, IsFronted, IsHeadOf, MayGoOn, least_from, on}
 use Rattle.mr_bytes.specs.Cut as Cut
 use Rattle.mr_shards.specs.Merged.{Group}
-use Rattle.mr_shards.specs.Rounds.{AreHeads, BlamesGoing, IsGoing}
+use Rattle.mr_shards.specs.Rounds.{BlamesGoing, IsGoing}
 use Rattle.mr_shards.specs.Views.{waiting_group, waits}
 use Rattle.mr_shards.proofs.FrontLemmas.{all-at}
 use Rattle.mr_shards.proofs.LoopLemmas.{least-within}
 use Rattle.mr_shards.proofs.RefusedLemmas.{handed}
 use Rattle.mr_shards.proofs.RoundLemmas.{all-set, behind-next, dry-head, further-all, further-next, further-set, going-blames, going-large, going-step, head-is, heads-fronted, next-smaller, set-smaller, whole-head}
-use Rattle.mr_shards.proofs.StepLemmas.{IsBest, IsLeast, best-of}
+use Rattle.mr_shards.proofs.StepLemmas.{IsLeast, best-of}
 use Rattle.mr_shards.proofs.merger.merge_lines.Goals as goal
 
 -- the least of the cursors is the least of those that the vector holds

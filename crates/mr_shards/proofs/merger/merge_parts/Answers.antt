@@ -1,13 +1,10 @@
-use Rattle.std.proofs.Common.{◌≡◌, ◌∙◌, ◌++◌, [], ap, sym, subst, List, ℕ, map}
-use Rattle.std.specs.List.{AllByRecursion}
+use Rattle.std.proofs.Common.{◌∙◌, [], ap, sym, subst, List}
 use Rattle.std.proofs.lemmas.Result.{err_from_is_err_and}
 use Rattle.mr_shards.specs.declared.merger.ShardText.{ShardText}
-use Rattle.mr_shards.specs.declared.merger.Window.{Window}
 use Rattle.mr_shards.specs.declared.shift.ShardFiles.{ShardFiles}
-use Rattle.mr_jobs.specs.JobSpec.{JobSpec}
 use Rattle.mr_shards.specs.Outputs.{IsOutputOfAll}
-use Rattle.mr_shards.specs.Refused.{Blames, IsShardText}
-use Rattle.mr_shards.specs.Rounds.{AreFresh, AreWindows, IsMerged, are_last, outputs_of, whole_window}
+use Rattle.mr_shards.specs.Refused.{Blames}
+use Rattle.mr_shards.specs.Rounds.{AreFresh, AreWindows, IsMerged, are_last}
 use Rattle.mr_shards.proofs.FreshLemmas.{fresh-wholes, last-wholes, outputs-wholes, windows-wholes, wholes}
 use Rattle.mr_shards.proofs.RefusedLemmas.{blamed}
 use Rattle.mr_shards.proofs.merger.merge_parts.Goals as goal

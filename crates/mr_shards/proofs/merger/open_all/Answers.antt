@@ -1,4 +1,4 @@
-use Rattle.std.proofs.Common.{◌<◌, ◌≡◌, ◌++◌, ◌∷◌, [], ◌∙◌, ap, sym, ◌+◌, List, ℕ, length, subst, Option, arith, get_or}
+use Rattle.std.proofs.Common.{◌<◌, ◌∙◌, ap, sym, ◌+◌, List, length, subst, arith, get_or}
 use Rattle.std.proofs.lemmas.List.{length_push}
 use Rattle.std.proofs.lemmas.Result.{err_from_is_err_and}
 use Rattle.mr_shards.specs.declared.merger.MergeFault.{MergeFault}

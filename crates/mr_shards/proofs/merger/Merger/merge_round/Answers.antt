@@ -1,4 +1,4 @@
-use Rattle.std.proofs.Common.{◌≡◌, ◌⊎◌, ◌∙◌, ◌++◌, [], ap, sym, subst, inl, inr, length, List, ℕ, Option, None, Some, refl, true, false}
+use Rattle.std.proofs.Common.{◌≡◌, ◌∙◌, ap, sym, subst, inl, inr, length, List, ℕ, Option, Some, refl}
 use Rattle.std.specs.Prelude.{IfSome}
 use Rattle.std.proofs.Common.{Vec}
 use Rattle.std.specs.Global.{Global}
@@ -13,7 +13,7 @@ use Rattle.mr_shards.specs.Cursors.{are_ended}
 use Rattle.mr_shards.specs.Refused.{Blames}
 use Rattle.mr_shards.specs.Rounds.{AreOpen, AreReadUpTo, AreWindows, AreWithin, Goes, IsAfter, IsGoing, OneGoes, Reading, Standing, cuts_at, outputs_of}
 use Rattle.mr_shards.specs.Views.{IsWaitingFor, Waits, waits}
-use Rattle.mr_shards.proofs.EndLemmas.{Finishes, after-nothing, dry-goes, dry-window, ended-last, further-count, have-bytes, merges, nothing-within, open-heads}
+use Rattle.mr_shards.proofs.EndLemmas.{after-nothing, dry-goes, dry-window, ended-last, further-count, have-bytes, merges, nothing-within, open-heads}
 use Rattle.mr_shards.proofs.RefusedLemmas.{handed}
 use Rattle.mr_shards.proofs.RoundLemmas.{going-opened, helds, mores}
 use Rattle.mr_shards.proofs.merger.Merger.merge_round.Goals.{then-are_ended+in_ok-put, else-are_ended}
@@ -124,13 +124,13 @@ returns-clause-ok c =
     (c.in_ok-all_held.ensures ∙ ap helds c.as_slice-3.ensures.value) (c.in_ok-cuts_of.ensures ∙ ap (cuts_at ws) c.as_slice-4.ensures.value) c.in_ok-merge_lines.ensures.ends
     (elim c.if-are_ended.branch [
       | then-are_ended+in_ok-put w ↦ inl (
-            ap are_ended (sym c.as_slice-2.ensures.value) ∙ sym c.are_ended.ensures ∙ w.if-are_ended.true,
-            ap waits (c.waiting-3.view_is ∙ w.waiting-is) ∙ w.in_ok-put.ensures.waits.0,
-            ap (λ (v : Vec ℕ Global). v.items) w.text-is ∙ w.in_ok-put.ensures.written,
-          )
+        ap are_ended (sym c.as_slice-2.ensures.value) ∙ sym c.are_ended.ensures ∙ w.if-are_ended.true,
+        ap waits (c.waiting-3.view_is ∙ w.waiting-is) ∙ w.in_ok-put.ensures.waits.0,
+        ap (λ (v : Vec ℕ Global). v.items) w.text-is ∙ w.in_ok-put.ensures.written,
+      )
       | else-are_ended w ↦ inr (
-            ap are_ended (sym c.as_slice-2.ensures.value) ∙ sym c.are_ended.ensures ∙ w.if-are_ended.false,
-            ap waits (c.waiting-3.view_is ∙ w.waiting-is),
-            ap (λ (v : Vec ℕ Global). v.items) w.text-is,
-          )
+        ap are_ended (sym c.as_slice-2.ensures.value) ∙ sym c.are_ended.ensures ∙ w.if-are_ended.false,
+        ap waits (c.waiting-3.view_is ∙ w.waiting-is),
+        ap (λ (v : Vec ℕ Global). v.items) w.text-is,
+      )
     ])

@@ -1,5 +1,5 @@
 use Rattle.std.proofs.Common.{◌≡◌, sym, subst}
-use Rattle.mr_shards.specs.Merged.{Group, joined}
+use Rattle.mr_shards.specs.Merged.{joined}
 use Rattle.mr_shards.specs.Views.{IsWaitingFor, Waits, group_of, waiting_group}
 use Rattle.mr_shards.proofs.LineLemmas.{total-added}
 use Rattle.mr_shards.proofs.waiting.Waiting.add.Goals as goal
