@@ -78,6 +78,13 @@ def inputs(words):
     yield "beside keys that fall", lambda: with_falling_keys(4 * words + words // 2)
 
 
+def pairs_in(request, part):
+    """The pairs that a part's lines state, as a verdict has to tell; for an index any number would do."""
+    if request != WORDS:
+        return part.count(b"\n")
+    return sum(int(line[line.rindex(b"\t"):]) for line in part.splitlines())
+
+
 def written(room, shards):
     """The verdicts of shards, each in a folder with its part, and how many bytes the parts have."""
     verdicts, size = [], 0
@@ -88,7 +95,7 @@ def written(room, shards):
             file.write(part)
         with open(os.path.join(folder, "verdict"), "wb") as file:
             names = [f"f{number}-{file}" for file in range(INDEXED if request == INDEX else 1)]
-            file.write(verdict_text(request, [(name, b"") for name in names], [part], [], part.count(b"\n")))
+            file.write(verdict_text(request, [(name, b"") for name in names], [part], [], pairs_in(request, part)))
         verdicts.append(os.path.join(folder, "verdict"))
         size += len(part)
     return verdicts, size

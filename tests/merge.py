@@ -141,6 +141,11 @@ def both_emit(shards):
     changed(shards[0], "verdict", b"emitted 9\n", b"emitted 18446744073709551615\n")
 
 
+def both_tell_more(shards):
+    for shard, pairs in zip(shards, (9, 4)):
+        changed(shard, "verdict", b"emitted %d\n" % pairs, b"emitted %d\n" % (pairs + 1))
+
+
 def one_less(shards):
     verdict = open(os.path.join(shards[1], "verdict"), "rb").read()
     last = [line for line in verdict.splitlines(True) if line.startswith(b"output ")][-1]
@@ -173,6 +178,12 @@ REFUSED = [
     ("a total past 64 bits", lambda shards: renoted(shards[1], "part-00001", b"cat\t18446744073709551616\n"), 1, b"BadLine shard 1 partition 1 line 0"),
     ("keys that fall", lambda shards: renoted(shards[1], "part-00001", b"dog\t1\ncat\t1\n"), 1, b"BadLine shard 1 partition 1 line 1"),
     ("a key twice", lambda shards: renoted(shards[1], "part-00001", b"cat\t1\ncat\t1\n"), 1, b"BadLine shard 1 partition 1 line 1"),
+    ("a pair more than the lines state", edit("verdict", b"emitted 4\n", b"emitted 5\n"), 1, b"OtherTotal shard 1"),
+    ("none of the pairs", edit("verdict", b"emitted 4\n", b"emitted 0\n"), 1, b"OtherTotal shard 1"),
+    ("other pairs in both shards", both_tell_more, 1, b"OtherTotal shard 0"),
+    ("a part without its lines", lambda shards: renoted(shards[0], "part-00000", b""), 1, b"OtherTotal shard 0"),
+    ("a part with another count", lambda shards: renoted(shards[1], "part-00001", b"cat\t7\n"), 1, b"OtherTotal shard 1"),
+    ("pairs past 64 bits", lambda shards: renoted(shards[1], "part-00001", b"a\t18446744073709551615\nb\t5\n"), 1, b"OtherTotal shard 1"),
     ("totals past 64 bits", lambda shards: [renoted(shard, "part-00001", b"cat\t9223372036854775808\n") for shard in shards], 2, b"TotalTooLarge partition 1"),
 ]
 
@@ -207,7 +218,9 @@ def bad_texts(harness):
 
 def leaves(text, left, whole):
     """What is to stand behind a refusal: all as before where it comes before a part is read, and otherwise the partitions
-    before whole, and an empty verdict."""
+    before whole, and an empty verdict; where a total is another, all parts."""
+    if text.startswith(b"OtherTotal"):
+        return left["verdict"] == b"" and set(left) == set(whole)
     if text.split()[0] not in (b"OtherPart", b"BadLine", b"TotalTooLarge"):
         return left == {"part-00000": b"old", "verdict": b"old"}
     return left["verdict"] == b"" and set(left) <= set(whole) and (b"partition 0" in text or left["part-00000"] == whole["part-00000"])
@@ -226,9 +239,11 @@ def refusals(harness):
     got = merged(harness, harness.directory(), [*shards, shards[0]])
     harness.check("a shard twice", got == (1, b"", b"mapred: RepeatedInput input 2\n"), repr(got))
     places(harness)
+    pairs = sum(int(line.split(b"\t")[1]) for line in contents(shards[1])["part-00001"].splitlines())
     renoted(shards[1], "part-00000", b"")
+    changed(shards[1], "verdict", b"emitted 4\n", b"emitted %d\n" % pairs)
     got = merged(harness, harness.directory(), shards)
-    harness.check("who lies about a part is believed: the merge tests that verdicts and parts agree", got[0] == 0, repr(got))
+    harness.check("who lies about a part and its pairs is believed: the merge tests that verdicts and parts agree", got[0] == 0, repr(got))
 
 
 def places(harness):

@@ -4,7 +4,6 @@ pub mod ListingLemmas
 pub mod FaultLemmas
 pub mod PartLemmas
 pub mod NoteLemmas
-pub mod RowLemmas
 pub mod TruthLemmas
 pub mod StreamLemmas
 pub mod TailLemmas
@@ -17,4 +16,6 @@ pub mod RestLemmas
 pub mod ResultLemmas
 pub mod SharingLemmas
 pub mod PairLemmas
+pub mod SumLemmas
+pub mod RowLemmas
 pub mod VerifyLemmas

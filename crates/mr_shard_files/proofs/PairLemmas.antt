@@ -10,7 +10,7 @@ use Rattle.mr_jobs.specs.JobSpec.{JobSpec, WordCount, LinesWith, Resources, Inve
 use Rattle.mr_shards.specs.Lines.{EndsLine, after_last, lines, longer}
 use Rattle.mr_shards.proofs.LineLemmas.{there}
 use Rattle.mr_shards.proofs.ReadingLemmas.{after-last, decimal-lacks, lines-none}
-use Rattle.mr_shard_files.specs.Verified.{EndsInCount, HaveTotal, IsTotal, IsTotalOf, StateTogether, States, TotalFits}
+use Rattle.mr_shard_files.specs.Pairs.{EndsInCount, HaveTotal, IsSumOf, IsTotal, IsTotalOf, StateTogether, States, TotalFits}
 
 -- ---- the lines up to a line feed
 
@@ -106,17 +106,13 @@ none_without job line e clear = λ n small s. let c = count_stated job line n e 
 
 -- ---- sums
 
--- the sum, if both are there and it fits
-abbrev pub IsSum : Option ℕ → Option ℕ → Option ℕ → Type 0
-IsSum a b r = MatchOption r ((m n : ℕ) → a ≡ Some m → b ≡ Some n → 2 ^ 64 ≤ m + n) (λ k. (m : ℕ) × (n : ℕ) × (a ≡ Some m) × (b ≡ Some n) × (k ≡ m + n))
-
 module _ {A : Type 0} (P : List A → ℕ → Type 0) (on : (xs ys : List A) (k m : ℕ) → P xs k → P ys m → P (xs ++ ys) (k + m))
     (back : (xs ys : List A) (n : ℕ) → P (xs ++ ys) n → (k : ℕ) × (m : ℕ) × P xs k × P ys m × (n ≡ k + m))
     (one : (xs : List A) (k m : ℕ) → P xs k → P xs m → k ≡ m) where
   abbrev Is : List A → Option ℕ → Type 0
   Is xs t = MatchOption t ((n : ℕ) → n < 2 ^ 64 → P xs n → ⊥) (P xs)
 
-  sum_is : (xs ys : List A) (a b r : Option ℕ) → Is xs a → Is ys b → IsSum a b r → Is (xs ++ ys) r
+  sum_is : (xs ys : List A) (a b r : Option ℕ) → Is xs a → Is ys b → IsSumOf a b r → Is (xs ++ ys) r
   sum_is xs ys (Some m) (Some n) (Some k) h g s =
       let e : m ≡ s.0 = cc in
       let f : n ≡ s.1 = cc in
@@ -146,7 +142,7 @@ module _ (job : JobSpec) where
   together_one [] k m h g = h ∙ sym g
   together_one (l ∷ ls) k m h g = omega (arith, states_one job l h.0 g.0 h.2 g.2, together_one ls h.1 g.1 h.3 g.3, h.4, g.4)
 
-  pub total_more : (ls ms : List (List ℕ)) (a b r : Option ℕ) → IsTotal job ls a → IsTotal job ms b → IsSum a b r → IsTotal job (ls ++ ms) r
+  pub total_more : (ls ms : List (List ℕ)) (a b r : Option ℕ) → IsTotal job ls a → IsTotal job ms b → IsSumOf a b r → IsTotal job (ls ++ ms) r
   total_more ls ms a b r h g s = sum_is (StateTogether job) together_on together_back together_one ls ms a b r h g s
 
   pub total_of_line : (l : List ℕ) (r : Option ℕ) → IsStated job l r → IsTotal job (l ∷ []) r
@@ -180,7 +176,7 @@ module _ (job : JobSpec) where
   pub have_one : (xs : List (List ℕ)) (k m : ℕ) → HaveTotal job xs k → HaveTotal job xs m → k ≡ m
   have_one xs k m h g = together_one (flat_map lines xs) k m h.1 g.1
 
-  pub texts_more : (xs ys : List (List ℕ)) (a b r : Option ℕ) → IsTotalOf job xs a → IsTotalOf job ys b → IsSum a b r → IsTotalOf job (xs ++ ys) r
+  pub texts_more : (xs ys : List (List ℕ)) (a b r : Option ℕ) → IsTotalOf job xs a → IsTotalOf job ys b → IsSumOf a b r → IsTotalOf job (xs ++ ys) r
   texts_more xs ys a b r h g s = sum_is (HaveTotal job) have_on have_back have_one xs ys a b r h g s
 
   pub no_texts : IsTotalOf job [] (Some 0)
@@ -225,7 +221,7 @@ open_end a b clear some (inr (first, is)) =
     there 10 b (drop (length a) first) [] (sym (drop_front a b) ∙ ap (drop (length a)) is ∙ drop_within first (10 ∷ []) (length a) within) clear
 
 module _ (job : JobSpec) (passed held : List ℕ) (k : ℕ) (a b r : Option ℕ) (whole : EndsLine passed) (lines_are : EndsLine (take k held)) (before : IsTotal job (lines passed) a)
-    (here : IsTotal job (lines (take k held)) b) (sum : IsSum a b r) where
+    (here : IsTotal job (lines (take k held)) b) (sum : IsSumOf a b r) where
   pub window_total : IsTotal job (lines (passed ++ take k held)) r
   window_total = subst (λ ls. IsTotal job ls r) (sym (lines_behind passed (take k held) whole)) (total_more job (lines passed) (lines (take k held)) a b r before here sum)
 

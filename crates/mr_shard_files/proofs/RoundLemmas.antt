@@ -8,7 +8,7 @@ use Rattle.mr_shards.specs.declared.shift.ShardFiles.{ShardFiles}
 use Rattle.mr_shards.specs.declared.merger.Window.{Window}
 use Rattle.mr_shards.specs.declared.merger.MergeFault.{MergeFault}
 use Rattle.mr_shards.specs.Refused.{Blames}
-use Rattle.mr_shards.specs.Rounds.{AreFresh, AreWindows, AreWithin, IsAfter, IsMerged, IsWindow, Reading, Standing, are_last, outputs_of, taken_on}
+use Rattle.mr_shards.specs.Rounds.{AreCounted, AreFresh, AreWindows, AreWithin, IsAfter, IsMerged, IsWindow, Reading, Standing, are_last, outputs_of, taken_on}
 use Rattle.mr_shards.specs.Verdict.{Told}
 use Rattle.mr_shard_files.specs.declared.stream.Part.{Part}
 use Rattle.mr_shard_files.specs.declared.fault.ShardFault.TheVariants.{OutOfMemory}
@@ -208,10 +208,10 @@ module _ {R : Type 0} (remaining : R → Option (List ℕ)) (can_fail : R → Ty
   -- all is merged at the last
   pub last_round : (job : JobSpec) (fs : List ShardFiles) (xs : List (List ℕ)) (os zs : List (Part R)) (m m' : Standing) (out : List ℕ)
       → Stands job fs xs os m out → (filled : List (Part R)) → AllAre Fills zs os filled → MergesHeld job filled m m' → all_done filled ≡ true
-      → (rs : List Reading) → AllMayBe fs xs filled rs → IsMerged job (outputs_of rs) (out ++ m'.text)
+      → (rs : List Reading) → AllMayBe fs xs filled rs → IsMerged job (outputs_of rs) (out ++ m'.text) × AreCounted job (outputs_of rs) m'.held
   last_round job fs xs os zs m m' out stands filled k s last rs h =
       let was = stands rs (fill_back fs xs os filled zs rs k h) in
-      (s.merges.whole rs out was (windows_are fs xs filled s.windows rs h s.shown) (last_is filled s.windows s.shown ∙ last)).0
+      s.merges.whole rs out was (windows_are fs xs filled s.windows rs h s.shown) (last_is filled s.windows s.shown ∙ last)
 
   moves_at : (xs : List (List ℕ)) (bs os : List (Part R)) (i : ℕ) (d : Part R) → AllAre (Moves remaining can_fail) xs bs os → i < length os → (i < length bs) × Moves remaining can_fail (get_or xs i []) (get_or bs i d) (get_or os i d)
   moves_at [] [] [] i d h less = absurd (omega (arith, less))

@@ -1,6 +1,6 @@
 -- What stands beside the verdicts, partition by partition, and shard by shard.
-use Rattle.std.proofs.Common.{◌≡◌, ℕ, zero, suc, ◌+◌, ◌<◌, ◌≤◌, ◌++◌, ◌⊎◌, inl, inr, List, [], ◌∷◌, length, length-append, refl, ap, sym, ◌∙◌, subst, arith}
-use Rattle.std.specs.Prelude.{None}
+use Rattle.std.proofs.Common.{◌≡◌, ℕ, zero, suc, ◌+◌, ◌<◌, ◌≤◌, ◌++◌, ◌⊎◌, inl, inr, List, [], ◌∷◌, length, length-append, replicate, refl, ap, sym, ◌∙◌, subst, arith}
+use Rattle.std.specs.Prelude.{None, Option, Some}
 use Rattle.std.specs.List.{AllByRecursion}
 use Rattle.std.proofs.lemmas.Bool.{cases_lt}
 use Rattle.std.proofs.lemmas.List.{get_or_append_left}
@@ -8,6 +8,7 @@ use Rattle.std.proofs.Math.Seq.{get_or-append_seam}
 use Rattle.mr_input.specs.Files.{nth_file}
 use Rattle.mr_files.specs.Holding.{Holding, Stored}
 use Rattle.mr_jobs.specs.JobSpec.{JobSpec}
+use Rattle.mr_shards.specs.declared.cursor.Held.{Held}
 use Rattle.mr_shards.specs.declared.shift.ShardFiles.{ShardFiles}
 use Rattle.mr_shards.specs.declared.merger.ShardText.{ShardText}
 use Rattle.mr_shards.specs.Portions.{past_shard}
@@ -16,8 +17,12 @@ use Rattle.mr_shards.specs.Joined.{AreOutputsAt, IsMergedAt, inputs_of}
 use Rattle.mr_shards.specs.Verdict.{Told}
 use Rattle.mr_shard_files.specs.Beside.{AreOutputs, IsPartition, StandsBeside, Tells, ReportsCause}
 use Rattle.mr_shard_files.specs.Merging.{AreParts, ArePartsOf}
+use Rattle.mr_shard_files.specs.Pairs.{IsAdded}
+use Rattle.mr_shard_files.specs.Streams.{AllAre}
 use Rattle.mr_shards.proofs.PastLemmas.{files-of-past}
 use Rattle.mr_shard_files.proofs.ListLemmas.{each_more}
+use Rattle.mr_shard_files.proofs.PairLemmas.{no_texts, texts_more}
+use Rattle.mr_shard_files.proofs.SumLemmas.{AreCounts, AreSums}
 
 -- one more part of each shard
 abbrev grown : List (List (List ℕ)) → List (List ℕ) → List (List (List ℕ))
@@ -31,6 +36,21 @@ no_parts [] = []
 no_parts (v ∷ vs) = [] ∷ no_parts vs
 
 module _ (holds : Stored) (job : JobSpec) where
+  sums_none : (vs : List Told) → AreSums job (no_parts vs) (replicate (length vs) (Some 0))
+  sums_none [] = tt
+  sums_none (v ∷ vs) = (no_texts job, sums_none vs)
+
+  sums_more : (pss : List (List (List ℕ))) (ts : List (List ℕ)) (hs : List Held) (os ns : List (Option ℕ)) → AreSums job pss os → AreCounts job ts hs → AllAre IsAdded hs os ns → AreSums job (grown pss ts) ns
+  sums_more [] ts [] [] [] s c a = tt
+  sums_more [] ts [] [] (n ∷ ns) s c a = absurd a
+  sums_more [] ts (h ∷ hs) [] ns s c a = absurd a
+  sums_more [] ts hs (o ∷ os) ns s c a = absurd s
+  sums_more (ps ∷ pss) ts hs [] ns s c a = absurd s
+  sums_more (ps ∷ pss) ts [] (o ∷ os) ns s c a = absurd a
+  sums_more (ps ∷ pss) [] (h ∷ hs) (o ∷ os) ns s c a = absurd c
+  sums_more (ps ∷ pss) (t ∷ ts) (h ∷ hs) (o ∷ os) [] s c a = absurd a
+  sums_more (ps ∷ pss) (t ∷ ts) (h ∷ hs) (o ∷ os) (n ∷ ns) s c a = (texts_more job ps (t ∷ []) o h.pairs n s.0 c.0 a.0, sums_more pss ts hs os ns s.1 c.1 a.1)
+
   part_more : (n : ℕ) (name : List ℕ) (v : Told) (ps : List (List ℕ)) (t : List ℕ) → AreParts holds job n name v ps
       → StandsBeside holds n name t → ReportsCause n v t → IsRest job None t → AreParts holds job (n + 1) name v (ps ++ t ∷ [])
   part_more n name v ps t a s k l = record {
@@ -96,31 +116,38 @@ module _ (holds : Stored) (job : JobSpec) where
       let at : nth_file (ps ++ t ∷ []) p ≡ nth_file ps p = get_or_append_left ps (t ∷ []) [] p (omega (arith, less, a.0.count_is)) in
       (o.0, o.1 ∙ sym at, outputs_kept p n ns vs pss ts os less a.1 k.1 o.2)
 
-  -- the parts of each shard, where those of the first partitions were merged to these texts
-  pub record AreRows (names : List (List ℕ)) (vs : List Told) (texts : List (List ℕ)) (n : ℕ) : Type 0 where
+  -- the parts of each shard, where those of the first partitions were merged to these texts, and their totals
+  pub record AreSummed (names : List (List ℕ)) (vs : List Told) (texts : List (List ℕ)) (n : ℕ) (totals : List (Option ℕ)) : Type 0 where
     pub parts : List (List (List ℕ))
     pub parts_are : ArePartsOf holds job n names vs parts
     pub merged : (p : ℕ) → p < n → IsMergedAt job vs parts p (nth_file texts p)
+    pub sums : AreSums job parts totals
 
-  row_more : (names : List (List ℕ)) (vs : List Told) (texts : List (List ℕ)) (n : ℕ) → AreRows names vs texts n → IsPartition holds job names vs n (nth_file texts n) → AreRows names vs texts (n + 1)
-  row_more names vs texts n r h = record {
+  pub rows_none : (names : List (List ℕ)) (vs : List Told) → length names ≡ length vs → AreSummed names vs [] 0 (replicate (length vs) (Some 0))
+  rows_none names vs e = record {
+    parts = no_parts vs;
+    parts_are = parts_none names vs e;
+    merged = λ p less. absurd (omega (arith, less));
+    sums = sums_none vs;
+  }
+
+  -- those of one partition more
+  pub rows_more : (names : List (List ℕ)) (vs : List Told) (texts : List (List ℕ)) (text : List ℕ) (n : ℕ) (held : List Held) (old new : List (Option ℕ)) → length texts ≡ n
+      → AreSummed names vs texts n old → (h : IsPartition holds job names vs n text) → AreCounts job h.parts held → AllAre IsAdded held old new → AreSummed names vs (texts ++ text ∷ []) (n + 1) new
+  rows_more names vs texts text n held old new count r h c added = record {
     parts = grown r.parts h.parts;
     parts_are = parts_more n names vs r.parts h.parts h.outputs r.parts_are h.stand h.told h.outputs_are h.lines;
     merged = λ p less. by p (cases_lt p n) less;
+    sums = sums_more r.parts h.parts held old new r.sums c added;
   }
     where
-      by : (p : ℕ) → (p < n) ⊎ (n ≤ p) → p < n + 1 → IsMergedAt job vs (grown r.parts h.parts) p (nth_file texts p)
+      by : (p : ℕ) → (p < n) ⊎ (n ≤ p) → p < n + 1 → IsMergedAt job vs (grown r.parts h.parts) p (nth_file (texts ++ text ∷ []) p)
       by p (inl l) less =
           let m = r.merged p l in
-          (m.0, outputs_kept p n names vs r.parts h.parts m.0 l r.parts_are h.told m.1, m.2)
+          let same : nth_file (texts ++ text ∷ []) p ≡ nth_file texts p = get_or_append_left texts (text ∷ []) [] p (omega (arith, l, count)) in
+          subst (IsMergedAt job vs (grown r.parts h.parts) p) (sym same) (m.0, outputs_kept p n names vs r.parts h.parts m.0 l r.parts_are h.told m.1, m.2)
       by p (inr g) less =
           let same : n ≡ p = omega (arith, g, less) in
-          subst (λ k. IsMergedAt job vs (grown r.parts h.parts) k (nth_file texts k)) same
-          (h.outputs, outputs_new n names vs r.parts h.parts h.outputs r.parts_are h.outputs_are, h.merged)
-
-  pub rows : (names : List (List ℕ)) (vs : List Told) (texts : List (List ℕ)) (n : ℕ) → length names ≡ length vs
-      → ((p : ℕ) → p < n → IsPartition holds job names vs p (nth_file texts p)) → AreRows names vs texts n
-  rows names vs texts zero e h = record { parts = no_parts vs; parts_are = parts_none names vs e; merged = λ p less. absurd (omega (arith, less)) }
-  rows names vs texts (suc n) e h =
-      let here : n + 1 ≡ suc n = omega arith in
-      subst (AreRows names vs texts) here (row_more names vs texts n (rows names vs texts n e (λ p less. h p (omega (arith, less)))) (h n (omega arith)))
+          let here : nth_file (texts ++ text ∷ []) n ≡ text = ap (λ k. nth_file (texts ++ text ∷ []) k) (sym count) ∙ get_or-append_seam texts text [] [] in
+          subst (λ k. IsMergedAt job vs (grown r.parts h.parts) k (nth_file (texts ++ text ∷ []) k)) same
+          (h.outputs, outputs_new n names vs r.parts h.parts h.outputs r.parts_are h.outputs_are, here ∙ h.merged)

@@ -6,6 +6,8 @@ use Rattle.std.specs.Prelude.{Option, IsTrue, ◌↔◌}
 use Rattle.mr_files.specs.Holding.{Agrees, Faulty, Holding, Stored}
 use Rattle.mr_files.specs.Names.{name_of_part}
 use Rattle.mr_jobs.specs.JobSpec.{JobSpec}
+use Rattle.mr_shards.specs.declared.cursor.Held.{Held}
+use Rattle.mr_shards.specs.declared.merger.ShardText.{ShardText}
 use Rattle.mr_shards.specs.declared.shift.ShardFiles.{ShardFiles}
 use Rattle.mr_shards.specs.Rounds.{Reading, output_with, outputs_of}
 use Rattle.mr_shards.specs.Joined.{inputs_of, verdict_at}
@@ -20,6 +22,7 @@ use Rattle.mr_shard_files.specs.Streams.{AllAre, AllMayBe, AreJoined, AreOpened,
 use Rattle.mr_files.proofs.Lists.{names_more}
 use Rattle.mr_shard_files.proofs.FaultLemmas.{blamed}
 use Rattle.mr_shard_files.proofs.RoundLemmas.{all_none, nothings}
+use Rattle.mr_shard_files.proofs.SumLemmas.{AreCounts, counts_of}
 
 -- what is left of a reader's bytes, where they are known
 abbrev left_known : Option (List ℕ) → List ℕ
@@ -55,6 +58,14 @@ passed_told told left read false c l = absurd (cc)
 either : {A B : Type 0} → A ⊎ B → (A → ⊥) → (B → ⊥) → ⊥
 either (inl a) f g = f a
 either (inr b) f g = g b
+
+outputs_count : (vs : List Told) (ts : List (List ℕ)) (os : List ShardText) → AreOutputs vs ts os → length os ≡ length vs
+outputs_count [] [] [] h = refl
+outputs_count [] [] (o ∷ os) h = absurd h
+outputs_count [] (t ∷ ts) os h = absurd h
+outputs_count (v ∷ vs) [] os h = absurd h
+outputs_count (v ∷ vs) (t ∷ ts) [] h = absurd h
+outputs_count (v ∷ vs) (t ∷ ts) (o ∷ os) h = ap (λ k. suc k) (outputs_count vs ts os h.2)
 
 module _ {R : Type 0} (remaining : R → Option (List ℕ)) (can_fail : R → Type 0) where
   pub ends : (p : ℕ) (v : Told) (b : Bool) (old new : Part R) → ((passed : List ℕ) × Moves remaining can_fail passed old new) → is_done new ≡ true
@@ -267,20 +278,39 @@ module _ {R : Type 0} (remaining : R → Option (List ℕ)) (can_fail : R → Ty
         (λ s. (one.0, same, other_part (name_at ns i) (verdict_at vs i) (get_or xs i []) (get_or qs i d) s one.1))
     unsettled_at ns vs xs qs e h u = unread_at ns vs xs qs e h u
 
-    pub partition_joined : (job : JobSpec) (ns : List (List ℕ)) (vs : List Told) (qs : List (Part R)) (files : List ShardFiles) (text : List ℕ) → files ≡ files_told vs
-        → AreOpened holds unreadable remaining can_fail p ns vs qs → AreJoined remaining can_fail job files p vs qs text → IsPartition holds job ns vs p text
-    partition_joined job ns vs qs files text is h j =
+    pub opened_count : (ns : List (List ℕ)) (vs : List Told) (qs : List (Part R)) → AreOpened holds unreadable remaining can_fail p ns vs qs → length qs ≡ length vs
+    opened_count [] [] [] h = refl
+    opened_count [] [] (q ∷ qs) h = absurd h
+    opened_count [] (v ∷ vs) qs h = absurd h
+    opened_count (n ∷ ns) [] qs h = absurd h
+    opened_count (n ∷ ns) (v ∷ vs) [] h = absurd h
+    opened_count (n ∷ ns) (v ∷ vs) (q ∷ qs) h = ap (λ k. suc k) (opened_count ns vs qs h.1)
+
+    -- the text is that of the partition, and so many pairs were counted of its parts
+    pub record IsCounted (job : JobSpec) (ns : List (List ℕ)) (vs : List Told) (text : List ℕ) (held : List Held) : Type 0 where
+      pub partition : IsPartition holds job ns vs p text
+      pub counts : AreCounts job partition.parts held
+
+    pub partition_joined : (job : JobSpec) (ns : List (List ℕ)) (vs : List Told) (qs : List (Part R)) (files : List ShardFiles) (text : List ℕ) (held : List Held) → files ≡ files_told vs
+        → AreOpened holds unreadable remaining can_fail p ns vs qs → AreJoined remaining can_fail job files p vs qs text held → IsCounted job ns vs text held
+    partition_joined job ns vs qs files text held is h j =
         let w = wholes ns vs j.merged.passed j.mid j.new (opened_moved ns vs j.merged.passed qs j.mid h j.merged.moved) j.settled in
-        let m = j.merged.merged w.readings (subst (λ fs. AllMayBe fs j.merged.passed j.mid w.readings) (sym is) w.may) in
+        let both = j.merged.merged w.readings (subst (λ fs. AllMayBe fs j.merged.passed j.mid w.readings) (sym is) w.may) in
+        let m = both.0 in
+        let os = outputs_of w.readings in
+        let count : length held ≡ length os = j.merged.count ∙ opened_count ns vs qs h ∙ sym (outputs_count vs w.texts os w.outputs) in
         record {
-          parts = w.texts;
-          outputs = outputs_of w.readings;
-          stand = w.stand;
-          told = w.told;
-          outputs_are = w.outputs;
-          lines = m.stands;
-          merged = m.text_is;
-          whole = m.whole;
+          partition = record {
+            parts = w.texts;
+            outputs = os;
+            stand = w.stand;
+            told = w.told;
+            outputs_are = w.outputs;
+            lines = m.stands;
+            merged = m.text_is;
+            whole = m.whole;
+          };
+          counts = counts_of job vs w.texts os held w.outputs m.stands count both.1;
         }
 
     pub partition_refused : (job : JobSpec) (ns : List (List ℕ)) (vs : List Told) (qs : List (Part R)) (files : List ShardFiles) (e : ShardFault) → length (inputs_of vs) < 2 ^ 32 → files ≡ files_told vs
@@ -344,11 +374,3 @@ module _ {R : Type 0} (remaining : R → Option (List ℕ)) (can_fail : R → Ty
           told = told_unopened (take i vs) before.0 (f (get_or names i d)) e u;
           why = subst (λ (n : List ℕ). IsPartFault holds unreadable p i n (verdict_at vs i) e) name (unopened (f (get_or names i d)) (verdict_at vs i) i e u);
         }
-
-    pub opened_count : (ns : List (List ℕ)) (vs : List Told) (qs : List (Part R)) → AreOpened holds unreadable remaining can_fail p ns vs qs → length qs ≡ length vs
-    opened_count [] [] [] h = refl
-    opened_count [] [] (q ∷ qs) h = absurd h
-    opened_count [] (v ∷ vs) qs h = absurd h
-    opened_count (n ∷ ns) [] qs h = absurd h
-    opened_count (n ∷ ns) (v ∷ vs) [] h = absurd h
-    opened_count (n ∷ ns) (v ∷ vs) (q ∷ qs) h = ap (λ k. suc k) (opened_count ns vs qs h.1)

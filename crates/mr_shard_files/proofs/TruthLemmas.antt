@@ -6,18 +6,14 @@ use Rattle.mr_files.specs.Holding.{Stored}
 use Rattle.mr_files.specs.Identities.{Known}
 use Rattle.mr_files.specs.Names.{part_files}
 use Rattle.mr_jobs.specs.JobSpec.{InvertedIndex, JobSpec, LinesWith, RequestSpec, Resources, WordCount, job_flags, job_literal, job_number}
-use Rattle.mr_shards.specs.Joined.{AreMerged, AreOnce, AreTrueOf, IsJoined}
-use Rattle.mr_shards.specs.RangeNotes.{TileFiles}
+use Rattle.mr_shards.specs.Joined.{AreMerged, AreTrueOf, IsJoined}
 use Rattle.mr_shards.specs.RangeVerdicts.{all_ranges}
 use Rattle.mr_shards.specs.Truth.{AreNotesOf, Asks, IsTrueOf, notes_for}
 use Rattle.mr_shards.specs.Verdict.{Note, Told}
 use Rattle.mr_shards.proofs.FlagLemmas.{one_flag}
 use Rattle.mr_shards.proofs.JoinedLaws.{joined_is_true}
-use Rattle.mr_shard_files.specs.Beside.{ArePartitions}
-use Rattle.mr_shard_files.specs.Listing.{IsListed}
-use Rattle.mr_shard_files.specs.Merging.{ArePartsWritten, IsMerging, IsReady, IsTrueOfAll, with_outputs}
+use Rattle.mr_shard_files.specs.Merging.{AreAllWritten, IsMerging, IsReady, IsTrueOfAll, with_outputs}
 use Rattle.mr_shard_files.proofs.NoteLemmas.{files_count, notes_of}
-use Rattle.mr_shard_files.proofs.RowLemmas.{rows}
 
 -- a job is known by its number, its flags and its literal
 same_job : (a b : JobSpec) → job_number a ≡ job_number b → job_flags a ≡ job_flags b → job_literal a ≡ job_literal b → a ≡ b
@@ -88,12 +84,12 @@ true_of_all r vs m parts outputs split some j notes count merged q files t =
     (joined_is_true (letting r q.skips) vs m files parts outputs split (joined_letting r q.skips vs m j) notes count merged
     (subst (λ (x : RequestSpec). AreTrueOf x vs files parts) (sym same) t))
 
--- what is merged of the parts of all partitions, with the notes of the outputs
-pub merging : (holds : Stored) (names : List (List ℕ)) (list : Option (List ℕ)) (partial : Bool) (vs : List Told) (r : RequestSpec) (m : Told) (outputs : List (List ℕ)) (notes : List Note) → 0 < r.split → 0 < length vs → length names ≡ length vs
-    → length outputs ≡ r.parts → ArePartitions holds r.job names vs outputs → IsJoined r vs m → AllByRecursion (λ v. length v.outputs ≡ r.parts) vs → TileFiles partial m.inputs → AreOnce m.inputs → length m.inputs < 2 ^ 32 → IsListed holds list m.inputs → notes ≡ notes_for (part_files r.parts) outputs
-    → IsMerging holds names list partial vs (with_outputs m notes) outputs
-merging holds names list partial vs r m outputs notes split some names_are count all joined outputs_are tiles once few listed told =
-    let row = rows holds r.job names vs outputs r.parts names_are (λ p less. all p (omega (arith, less, count))) in
+-- what is merged of verdicts that can be, where the parts of all partitions were written
+pub merging_ready : (old new : Stored) (known : Known) (names : List (List ℕ)) (list : Option (List ℕ)) (dir : List ℕ) (partial : Bool) (vs : List Told) (r : RequestSpec) (m : Told) (notes : List Note)
+    → IsReady old known names list dir partial vs r m → (a : AreAllWritten old new r names vs dir notes) → IsMerging old names list partial vs (with_outputs m notes) a.written.texts
+merging_ready old new known names list dir partial vs r m notes k a =
+    let w = a.written in
+    let joined = k.all.joined in
     let whole : IsJoined r vs (with_outputs m notes) = record {
       asks = joined.asks;
       alike = joined.alike;
@@ -103,25 +99,20 @@ merging holds names list partial vs r m outputs notes split some names_are count
       pairs_are = joined.pairs_are;
       few = joined.few;
     } in
-    let noted : AreNotesOf notes outputs = subst (λ (l : List Note). AreNotesOf l outputs) (sym told) (notes_of (part_files r.parts) outputs (files_count r.parts ∙ sym count)) in
+    let noted : AreNotesOf notes w.texts = subst (λ (l : List Note). AreNotesOf l w.texts) (sym a.notes_are) (notes_of (part_files r.parts) w.texts (files_count r.parts ∙ sym w.count)) in
     record {
       request = r;
-      parts = row.parts;
-      parts_are = row.parts_are;
+      parts = w.parts;
+      parts_are = w.parts_are;
+      totals = a.totals;
       joined = whole;
-      told = outputs_are;
-      tiles = tiles;
-      once = once;
-      few = few;
-      listed = listed;
-      count = count;
-      merged = row.merged;
-      notes_are = told;
-      true_of = true_of_all r vs (with_outputs m notes) row.parts outputs split some whole noted count row.merged;
+      told = k.all.told;
+      tiles = k.all.tiles;
+      once = k.all.once;
+      few = k.all.few;
+      listed = k.listed;
+      count = w.count;
+      merged = w.merged;
+      notes_are = a.notes_are;
+      true_of = true_of_all r vs (with_outputs m notes) w.parts w.texts k.split k.some whole noted w.count w.merged;
     }
-
--- what is merged of verdicts that can be, where the parts of all partitions were written
-pub merging_ready : (old new : Stored) (known : Known) (names : List (List ℕ)) (list : Option (List ℕ)) (dir : List ℕ) (partial : Bool) (vs : List Told) (r : RequestSpec) (m : Told) (notes : List Note) → length names ≡ length vs
-    → IsReady old known names list dir partial vs r m → (w : ArePartsWritten old new r names vs dir notes) → IsMerging old names list partial vs (with_outputs m notes) w.texts
-merging_ready old new known names list dir partial vs r m notes same k w =
-    merging old names list partial vs r m w.texts notes k.split k.some same w.count w.merged k.all.joined k.all.told k.all.tiles k.all.once k.all.few k.listed w.notes_are

@@ -20,7 +20,8 @@ use Rattle.mr_shard_files.specs.Faults.{IsPartFault, IsUnopened}
 use Rattle.mr_shard_files.specs.Streams.{IsOpened, IsOther, IsSettled, IsStream, Moves, ReportsUnread, is_done}
 use Rattle.mr_shard_files.specs.Merging.{IsHeard}
 use Rattle.mr_shard_files.specs.Told.{told_of_file, told_of_range}
-use Rattle.mr_shard_files.specs.Verified.{AreNoted, IsNotedPart, IsRangeFault, IsTotalOf, IsUntrue, IsUnverified, beside_name}
+use Rattle.mr_shard_files.specs.Pairs.{IsTotalOf}
+use Rattle.mr_shard_files.specs.Verified.{AreNoted, IsNotedPart, IsRangeFault, IsUntrue, IsUnverified, beside_name}
 use Rattle.mr_shard_files.proofs.StreamLemmas.{moves_on}
 use Rattle.mr_shard_files.proofs.SettleLemmas.{moved_on, other_part, unread_part, whole}
 

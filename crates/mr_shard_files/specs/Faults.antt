@@ -26,7 +26,8 @@ use Rattle.mr_shard_files.specs.Beside.{AreOutputs, ArePartitions, StandsBeside,
 use Rattle.mr_shard_files.specs.Listing.{DifferIn, IsListed, listing}
 use Rattle.mr_shard_files.specs.Made.{ReportsUnwritten}
 use Rattle.mr_shard_files.specs.Sharing.{IsShared}
-use Rattle.mr_shard_files.specs.Merging.{AreCounted, AreHeard, IsJoinedOnce, IsMerging, IsReady}
+use Rattle.mr_shard_files.specs.Merging.{AreCounted, AreHeard, ArePartsWritten, IsJoinedOnce, IsMerging, IsReady}
+use Rattle.mr_shard_files.specs.Pairs.{IsOtherPairs}
 
 abbrev pub name_at : List (List ℕ) → ℕ → List ℕ
 name_at names i = slice_index_or names i []
@@ -231,10 +232,15 @@ pub record IsCutShort (old new : Stored) (unreadable unwritable : Faulty) (reque
   pub why : IsPartitionFault old unreadable request.job names vs (length texts) fault
       ⊎ ReportsUnwritten (unwritable (name_of_part dir (length texts))) (name_of_part dir (length texts)) fault
 
--- why the parts of the result are not all written
+-- all partitions are merged, and the lines of a shard's parts state other pairs than its verdict
+abbrev pub HasOtherPairs : Stored → Stored → RequestSpec → List (List ℕ) → List Told → List ℕ → ShardFault → Type 0
+HasOtherPairs old new request names vs dir fault = (w : ArePartsWritten old new request names vs dir) × IsOtherPairs request.job vs w.parts fault
+
+-- why there are no notes of all parts of the result
 abbrev pub IsPartsFault : Stored → Stored → Faulty → Faulty → RequestSpec → List (List ℕ) → List Told → List ℕ → ShardFault → Type 0
 IsPartsFault old new unreadable unwritable request names vs dir fault = IsUnbegun old new unreadable request names vs fault
-    ⊎ (IsUnemptied old new unwritable dir fault ⊎ IsCutShort old new unreadable unwritable request names vs dir fault)
+    ⊎ (IsUnemptied old new unwritable dir fault
+    ⊎ (IsCutShort old new unreadable unwritable request names vs dir fault ⊎ HasOtherPairs old new request names vs dir fault))
 
 -- all is merged and the parts stand whole, and the verdict is not written: there stands what stood there, or a beginning of
 -- its text

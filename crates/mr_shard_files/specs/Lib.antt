@@ -1,6 +1,7 @@
 pub mod Told
 pub mod Beside
 pub mod Listing
+pub mod Pairs
 pub mod Merging
 pub mod Faults
 pub mod Streams

@@ -15,8 +15,9 @@ use Rattle.mr_shards.specs.Truth.{Asks, IsTrueOf, notes_for}
 use Rattle.mr_shards.specs.Verdict.{Note, Told, spelling}
 use Rattle.mr_shard_files.specs.Apart.{AreApart}
 use Rattle.mr_shard_files.specs.Sharing.{AreUnshared}
-use Rattle.mr_shard_files.specs.Beside.{ArePartitions, StandsBeside, ReportsCause}
+use Rattle.mr_shard_files.specs.Beside.{StandsBeside, ReportsCause}
 use Rattle.mr_shard_files.specs.Listing.{IsListed}
+use Rattle.mr_shard_files.specs.Pairs.{StatesPairs}
 
 -- under the name stands a text that the verdict is read from: its own, or an old one
 abbrev pub IsHeard : Stored → List ℕ → Told → Type 0
@@ -86,23 +87,33 @@ pub record IsReady (holds : Stored) (known : Known) (names : List (List ℕ)) (l
   pub apart : AreApart names dir
   pub unshared : AreUnshared known names list dir request.parts
 
--- each partition was merged to its text, which stands in the folder and has its note; the verdict there was emptied, and all
--- else stands as before
-pub record ArePartsWritten (old new : Stored) (request : RequestSpec) (names : List (List ℕ)) (vs : List Told) (dir : List ℕ) (notes : List Note) : Type 0 where
+-- each partition was merged of the shards' parts to its text, which stands in the folder; the verdict there was emptied, and
+-- all else stands as before
+pub record ArePartsWritten (old new : Stored) (request : RequestSpec) (names : List (List ℕ)) (vs : List Told) (dir : List ℕ) : Type 0 where
   pub texts : List (List ℕ)
+  pub parts : List (List (List ℕ))
   pub count : length texts ≡ request.parts
-  pub merged : ArePartitions old request.job names vs texts
-  pub notes_are : notes ≡ notes_for (part_files request.parts) texts
+  pub parts_are : ArePartsOf old request.job request.parts names vs parts
+  pub merged : AreMerged request vs parts texts
   pub whole : Holding new (part_names dir request.parts) texts
+  pub emptied : new (name_of_verdict dir) []
   pub begins : Begins old new (name_of_verdict dir) []
   pub others : ChangesAmong old new (merged_names dir request.parts)
 
--- outputs are merged of the parts that stand beside the verdicts, and one verdict is joined of these, with the notes of the
--- outputs; its inputs tile files, none of which begins twice, and where a list is named, they are just those of the list
+-- they are, each has its note, and each shard's parts state its verdict's pairs
+pub record AreAllWritten (old new : Stored) (request : RequestSpec) (names : List (List ℕ)) (vs : List Told) (dir : List ℕ) (notes : List Note) : Type 0 where
+  pub written : ArePartsWritten old new request names vs dir
+  pub notes_are : notes ≡ notes_for (part_files request.parts) written.texts
+  pub totals : (i : ℕ) → i < length vs → StatesPairs request.job vs written.parts i
+
+-- outputs are merged of the parts that stand beside the verdicts, whose lines state the pairs of each verdict, and one verdict
+-- is joined of these, with the notes of the outputs; its inputs tile files, none of which begins twice, and where a list is
+-- named, they are just those of the list
 pub record IsMerging (holds : Stored) (names : List (List ℕ)) (list : Option (List ℕ)) (partial : Bool) (vs : List Told) (m : Told) (outputs : List (List ℕ)) : Type 0 where
   pub request : RequestSpec
   pub parts : List (List (List ℕ))
   pub parts_are : ArePartsOf holds request.job request.parts names vs parts
+  pub totals : (i : ℕ) → i < length vs → StatesPairs request.job vs parts i
   pub joined : IsJoined request vs m
   pub told : AllByRecursion (λ v. length v.outputs ≡ request.parts) vs
   pub tiles : TileFiles partial m.inputs

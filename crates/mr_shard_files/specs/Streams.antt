@@ -8,11 +8,12 @@ use Rattle.mr_files.specs.Folders.{IsFolderOf}
 use Rattle.mr_files.specs.Holding.{Agrees, Faulty, Stored}
 use Rattle.mr_files.specs.Names.{name_of_part}
 use Rattle.mr_jobs.specs.JobSpec.{JobSpec}
+use Rattle.mr_shards.specs.declared.cursor.Held.{Held}
 use Rattle.mr_shards.specs.declared.shift.ShardFiles.{ShardFiles}
 use Rattle.mr_shards.specs.declared.merger.MergeFault.{MergeFault}
 use Rattle.mr_shards.specs.declared.merger.MergeFault.TheVariants as merge
 use Rattle.mr_shards.specs.declared.merger.Window.{Window}
-use Rattle.mr_shards.specs.Rounds.{AreWindows, IsAfter, IsMerged, Merges, Reading, Standing, outputs_of}
+use Rattle.mr_shards.specs.Rounds.{AreCounted, AreWindows, IsAfter, IsMerged, Merges, Reading, Standing, outputs_of}
 use Rattle.mr_shards.specs.Refused.{Blames}
 use Rattle.mr_shards.specs.Joined.{verdict_at}
 use Rattle.mr_shards.specs.Verdict.{Told}
@@ -20,6 +21,7 @@ use Rattle.mr_shard_files.specs.Beside.{ReportsCause, no_note}
 use Rattle.mr_shard_files.specs.Told.{told_of_merge}
 use Rattle.mr_shard_files.specs.declared.fault.ShardFault.{ShardFault}
 use Rattle.mr_shard_files.specs.declared.fault.ShardFault.TheVariants.{CannotRead, OtherPart, OutOfMemory}
+use Rattle.mr_shard_files.specs.declared.partition.PartMerge.{PartMerge}
 use Rattle.mr_shard_files.specs.declared.stream.Part.{Part}
 use Rattle.mr_shard_files.specs.declared.tails.Tail.{Tail}
 use Rattle.sha2.specs.declared.Sha256.{Sha256}
@@ -193,11 +195,12 @@ AllMayBe [] [] [] [] = Unit {0}
 AllMayBe (f ∷ fs) (x ∷ xs) (q ∷ qs) (r ∷ rs) = MayBe f x q r × AllMayBe fs xs qs rs
 AllMayBe _ _ _ _ = ⊥
 
--- the text is merged of whatever the parts may be
-pub record AreMergedTo {R : Type 0} (remaining : R → Option (List ℕ)) (can_fail : R → Type 0) (job : JobSpec) (files : List ShardFiles) (old new : List (Part R)) (text : List ℕ) : Type 0 where
+-- the text is merged of whatever the parts may be, and their pairs were counted
+pub record AreMergedTo {R : Type 0} (remaining : R → Option (List ℕ)) (can_fail : R → Type 0) (job : JobSpec) (files : List ShardFiles) (old new : List (Part R)) (text : List ℕ) (held : List Held) : Type 0 where
   pub passed : List (List ℕ)
   pub moved : AllAre (Moves remaining can_fail) passed old new
-  pub merged : (rs : List Reading) → AllMayBe files passed new rs → IsMerged job (outputs_of rs) text
+  pub count : length held ≡ length old
+  pub merged : (rs : List Reading) → AllMayBe files passed new rs → IsMerged job (outputs_of rs) text × AreCounted job (outputs_of rs) held
 
 -- whatever the parts may be, they can't be merged
 pub record AreBlamed {R : Type 0} (remaining : R → Option (List ℕ)) (can_fail : R → Type 0) (job : JobSpec) (files : List ShardFiles) (old new : List (Part R)) (fault : MergeFault) : Type 0 where
@@ -259,11 +262,11 @@ IsStopped remaining can_fail unwritten job files old new (stop.Part fault) =
     (fault ≡ OutOfMemory) ⊎ (OneIs (λ _ q. ReportsUnread (can_fail q.reader) (string_bytes q.name) fault) old ⊎ unwritten fault)
 IsStopped remaining can_fail unwritten job files old new (stop.Merge fault) = AreBlamed remaining can_fail job files old new fault
 
--- the parts were merged to the text, and each is the one that its verdict tells of
-pub record AreJoined {R : Type 0} (remaining : R → Option (List ℕ)) (can_fail : R → Type 0) (job : JobSpec) (files : List ShardFiles) (p : ℕ) (vs : List Told) (old : List (Part R)) (text : List ℕ) : Type 0 where
+-- the parts were merged to the text, and their pairs counted, and each is the one that its verdict tells of
+pub record AreJoined {R : Type 0} (remaining : R → Option (List ℕ)) (can_fail : R → Type 0) (job : JobSpec) (files : List ShardFiles) (p : ℕ) (vs : List Told) (old : List (Part R)) (text : List ℕ) (held : List Held) : Type 0 where
   pub mid : List (Part R)
   pub new : List (Part R)
-  pub merged : AreMergedTo remaining can_fail job files old mid text
+  pub merged : AreMergedTo remaining can_fail job files old mid text held
   pub settled : AllAre (IsSettled remaining can_fail p) vs mid new
 
 -- each is, and they can't be merged
@@ -286,3 +289,10 @@ pub record IsOneUnsettled {R : Type 0} (remaining : R → Option (List ℕ)) (ca
 abbrev pub IsRefused : {R : Type 0} → (R → Option (List ℕ)) → (R → Type 0) → JobSpec → List ShardFiles → ℕ → List Told → List (Part R) → ShardFault → Type 0
 IsRefused remaining can_fail job files p vs old fault = (fault ≡ OutOfMemory) ⊎ (OneIs (λ _ q. ReportsUnread (can_fail q.reader) (string_bytes q.name) fault) old
     ⊎ (IsOneUnsettled remaining can_fail p vs old fault ⊎ AreUnjoined remaining can_fail job files p vs old fault))
+
+-- the same for what is merged to a part of the result
+abbrev pub IsJoinedTo : {R : Type 0} → (R → Option (List ℕ)) → (R → Type 0) → PartMerge → List (Part R) → List ℕ → List Held → Type 0
+IsJoinedTo remaining can_fail m old text held = AreJoined remaining can_fail m.job.now m.files.now m.partition m.verdicts.now old text held
+
+abbrev pub IsNotJoined : {R : Type 0} → (R → Option (List ℕ)) → (R → Type 0) → PartMerge → List (Part R) → ShardFault → Type 0
+IsNotJoined remaining can_fail m old fault = IsRefused remaining can_fail m.job.now m.files.now m.partition m.verdicts.now old fault

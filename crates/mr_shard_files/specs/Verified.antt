@@ -1,60 +1,23 @@
 -- When files are those that a verdict tells of: its parts, the pairs that their lines state, the ranges of its input.
-use Rattle.std.specs.Prelude.{◌≡◌, ◌≢◌, ◌⊎◌, ℕ, ◌+◌, ◌<◌, ◌≤◌, ◌^◌, Bool, true, ⊤, List, [], ◌∷◌, ◌++◌, Option, None, Some, MatchOption, IsUtf8, decimal, length, string_bytes, take}
-use Rattle.std.specs.List.{AllByRecursion, flat_map}
+use Rattle.std.specs.Prelude.{◌≡◌, ◌≢◌, ◌⊎◌, ℕ, ◌+◌, ◌<◌, ◌≤◌, ◌^◌, Bool, true, ⊤, List, [], ◌∷◌, Option, None, Some, IsUtf8, length, string_bytes, take}
+use Rattle.std.specs.List.{AllByRecursion}
 use Rattle.sha2.specs.Sha256.{sha256}
 use Rattle.mr_files.specs.Holding.{Faulty, Stored}
 use Rattle.mr_files.specs.Names.{name_of_verdict}
 use Rattle.mr_files.specs.Ranges.{IsRangeOf, IsRangeRefusal}
 use Rattle.mr_files.specs.declared.ranges.RangeFault.{RangeFault}
 use Rattle.mr_files.specs.declared.ranges.RangeFault.TheVariants.{File}
-use Rattle.mr_jobs.specs.JobSpec.{JobSpec, RequestSpec, WordCount, LinesWith, Resources, InvertedIndex}
+use Rattle.mr_jobs.specs.JobSpec.{JobSpec, RequestSpec}
 use Rattle.mr_shards.specs.Gaps.{note_at}
-use Rattle.mr_shards.specs.Lines.{EndsLine, lines}
 use Rattle.mr_shards.specs.RangeNotes.{RangeNote}
 use Rattle.mr_shards.specs.Truth.{Asks, AsksNone}
 use Rattle.mr_shards.specs.Verdict.{Told}
 use Rattle.mr_shard_files.specs.Beside.{ReportsCause, StandsBeside}
 use Rattle.mr_shard_files.specs.Faults.{IsPartFault, IsUnheard}
 use Rattle.mr_shard_files.specs.Merging.{IsHeard}
+use Rattle.mr_shard_files.specs.Pairs.{IsTotalOf, TotalFits}
 use Rattle.mr_shard_files.specs.declared.fault.ShardFault.{ShardFault}
 use Rattle.mr_shard_files.specs.declared.fault.ShardFault.TheVariants.{CannotRead, NoRequest, OtherInput, OtherOutputs, OtherTotal, OutOfMemory}
-
--- ---- pairs that lines state
-
--- the line is a key, a tab, and a number that fits in 64 bits
-abbrev pub EndsInCount : List ℕ → ℕ → Type 0
-EndsInCount line n = (n < 2 ^ 64) × ((key : List ℕ) × (line ≡ key ++ 9 ∷ decimal n))
-
--- the line states so many pairs: its count, or one; a line of an index states none
-abbrev pub States : JobSpec → List ℕ → ℕ → Type 0
-States (WordCount keep_case) line n = EndsInCount line n
-States (LinesWith literal fold) line n = n ≡ 1
-States Resources line n = EndsInCount line n
-States (InvertedIndex keep_case) line n = n ≡ 0
-
--- the lines state so many together
-abbrev pub StateTogether : JobSpec → List (List ℕ) → ℕ → Type 0
-StateTogether job [] n = n ≡ 0
-StateTogether job (l ∷ ls) n = (k : ℕ) × (m : ℕ) × States job l k × StateTogether job ls m × (n ≡ k + m)
-
--- this is how many they state, or none fits in 64 bits
-abbrev pub IsTotal : JobSpec → List (List ℕ) → Option ℕ → Type 0
-IsTotal job ls total = MatchOption total ((n : ℕ) → n < 2 ^ 64 → StateTogether job ls n → ⊥) (StateTogether job ls)
-
--- the texts are whole lines, which state so many pairs together
-abbrev pub HaveTotal : JobSpec → List (List ℕ) → ℕ → Type 0
-HaveTotal job texts n = AllByRecursion EndsLine texts × StateTogether job (flat_map lines texts) n
-
--- this is how many the texts state, or none fits
-abbrev pub IsTotalOf : JobSpec → List (List ℕ) → Option ℕ → Type 0
-IsTotalOf job texts total = MatchOption total ((n : ℕ) → n < 2 ^ 64 → HaveTotal job texts n → ⊥) (HaveTotal job texts)
-
--- so many pairs are what the texts state; those of an index tell no number of pairs
-abbrev pub TotalFits : JobSpec → List (List ℕ) → ℕ → Type 0
-TotalFits (WordCount keep_case) texts n = HaveTotal (WordCount keep_case) texts n
-TotalFits (LinesWith literal fold) texts n = HaveTotal (LinesWith literal fold) texts n
-TotalFits Resources texts n = HaveTotal Resources texts n
-TotalFits (InvertedIndex keep_case) texts n = ⊤
 
 -- ---- files that stand
 

@@ -213,13 +213,12 @@ fn merge_verdicts<S: Store, T: Threads>(
         (S.alike store.old) (S.known_as store.old) (map (λ s. s.now) plan.now.names.now)
         (option_map (λ n. n.now) plan.now.list) plan.now.out.now plan.now.partial) }
 {
-    let MergePlan { names, out, .. } = *plan;
     let (request, joined) = prepare(store, alloc, plan, verdicts)?;
     let files = list_files(alloc, joined.inputs.as_slice(), verdicts)?;
     let files = files.as_slice();
-    let notes = partitions_written(rt, store, alloc, &request, names, verdicts, files, out)?;
+    let notes = partitions_written(rt, store, alloc, plan, &request, verdicts, files)?;
     let merged = add_notes(joined, notes);
-    save_verdict(store, alloc, out, &merged)?;
+    save_verdict(store, alloc, plan.out, &merged)?;
     Ok(merged)
 }
 

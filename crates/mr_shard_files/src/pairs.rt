@@ -1,17 +1,22 @@
-//! Counts the pairs that lines of outputs state.
+//! Counts the pairs that lines of outputs state, and compares them with those in verdicts.
 //!
 //!     words, url   key TAB count          its count
 //!     grep         line TAB FILE:OFFSET   one
 //!     index        word TAB FILES         none: a line names each file once
-ghost use Rattle.std.specs.Prelude.{◌≡◌, ℕ, ◌+◌, ◌<◌, ◌≤◌, ◌^◌, [], Some, MatchOption, drop, take};
-ghost use Rattle.std.specs.Prelude.{length};
+ghost use Rattle.std.specs.Prelude.{◌≡◌, ℕ, ◌<◌, ◌≤◌, ◌^◌, [], Some, MatchOption, drop, take};
+ghost use Rattle.std.specs.Prelude.{IfErr, IfOk, OnOk, length, replicate};
 ghost use Rattle.mr_bytes.specs.Cut.{Lacks};
 ghost use Rattle.mr_shards.specs.Lines.{EndsLine, lines};
-ghost use Rattle.mr_shard_files.specs.Verified.{IsTotal, States};
+ghost use Rattle.mr_shard_files.specs.declared.fault.ShardFault.TheVariants.{OtherTotal as other_total};
+ghost use Rattle.mr_shard_files.specs.Pairs.{Fits, FitsAt, FitsNot, IsAdded, IsSumOf, IsTotal};
+ghost use Rattle.mr_shard_files.specs.Pairs.{IsUnfit, States};
+ghost use Rattle.mr_shard_files.specs.Streams.{AllAre};
 
+use crate::fault::ShardFault;
 use memchr::memrchr;
 use mr_jobs::Job;
-use mr_shards::{cut_first, cut_last, number_of};
+use mr_shards::{Merger, Verdict, cut_first, cut_last, number_of};
+use std::alloc::{AllocError, Global};
 
 /// The pairs that a line states; none if it isn't of the job's form.
 fn pairs_in_line(job: &Job, line: &[u8]) -> Option<u64>
@@ -32,8 +37,7 @@ fn pairs_in_line(job: &Job, line: &[u8]) -> Option<u64>
 
 /// The sum, if both are there and it fits.
 pub(crate) fn sum_of(first: Option<u64>, second: Option<u64>) -> Option<u64>
-    ensures { MatchOption result ((m n : ℕ) → first ≡ Some m → second ≡ Some n → 2 ^ 64 ≤ m + n)
-        (λ k. (m : ℕ) × (n : ℕ) × (first ≡ Some m) × (second ≡ Some n) × (k ≡ m + n)) }
+    ensures { IsSumOf first second result }
 {
     match (first, second) {
         (Some(m), Some(n)) => m.checked_add(n),
@@ -65,4 +69,72 @@ pub(crate) fn whole_lines(bytes: &[u8]) -> usize
         Some(at) => at + 1,
         None => 0,
     }
+}
+
+/// No pairs yet, of each of so many shards.
+pub(crate) fn no_pairs(alloc: Global, shards: usize) -> Result<Vec<Option<u64>>, AllocError>
+    ensures { IfOk result (λ ts. ts.items ≡ replicate shards (Some 0)) }
+{
+    let mut totals = Vec::new(alloc);
+    for _ in 0..shards {
+        totals.push(Some(0)).map_err(AllocError::from)?;
+    }
+    Ok(totals)
+}
+
+/// Adds the pairs that the merger counted of each shard.
+pub(crate) fn add_pairs(totals: &mut [Option<u64>], merger: &Merger)
+    requires { length totals.old ≡ length merger.now.held }
+    ensures { AllAre IsAdded merger.now.held totals.old totals.new }
+{
+    for shard in 0..totals.len() {
+        totals[shard] = sum_of(totals[shard], merger.pairs(shard));
+    }
+}
+
+fn expect_pairs(shard: usize, total: Option<u64>, pairs: u64) -> Result<(), ShardFault>
+    ensures ok { OnOk result (total ≡ Some pairs) }
+    ensures err { IfErr result (λ e. (e ≡ other_total shard) × (total ≡ Some pairs → ⊥)) }
+{
+    if total == Some(pairs) {
+        Ok(())
+    } else {
+        Err(ShardFault::OtherTotal { shard })
+    }
+}
+
+/// So many pairs are what the shard's lines state; those of an index state none.
+pub(crate) fn test_total(
+    job: &Job,
+    shard: usize,
+    total: Option<u64>,
+    pairs: u64,
+) -> Result<(), ShardFault>
+    ensures ok { OnOk result (Fits job.now total pairs) }
+    ensures err { IfErr result (λ e. (e ≡ other_total shard) × FitsNot job.now total pairs) }
+{
+    if job.counts() {
+        return expect_pairs(shard, total, pairs);
+    }
+    if job.has_lines() {
+        return expect_pairs(shard, total, pairs);
+    }
+    Ok(())
+}
+
+/// The pairs that each shard's lines state are those in its verdict.
+pub(crate) fn test_totals(
+    job: &Job,
+    verdicts: &[Verdict],
+    totals: &[Option<u64>],
+) -> Result<(), ShardFault>
+    requires { length totals.now ≡ length verdicts.now }
+    ensures ok { OnOk result ((i : ℕ) → i < length verdicts.now → FitsAt job.now verdicts.now totals.now i) }
+    ensures err { IfErr result (IsUnfit job.now verdicts.now totals.now) }
+{
+    for shard in 0..verdicts.len() {
+        let verdict = &verdicts[shard];
+        test_total(job, shard, totals[shard], verdict.pairs)?;
+    }
+    Ok(())
 }

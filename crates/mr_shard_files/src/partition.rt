@@ -10,18 +10,19 @@ ghost use Rattle.mr_shards.specs.Truth.{note_for, note_for as note_telling, note
 ghost use Rattle.mr_shard_files.specs.Beside.{files_told};
 ghost use Rattle.mr_shard_files.specs.Faults.{IsPartsFault};
 ghost use Rattle.mr_shard_files.specs.Made.{HasWritten, ReportsUnwritten};
-ghost use Rattle.mr_shard_files.specs.Merging.{ArePartsWritten};
-ghost use Rattle.mr_shard_files.specs.Streams.{AreJoined, IsRefused};
+ghost use Rattle.mr_shard_files.specs.Merging.{AreAllWritten};
+ghost use Rattle.mr_shard_files.specs.Streams.{IsJoinedTo, IsNotJoined};
 ghost use Rattle.mr_input.specs.Files.{contents};
 
 use crate::fault::ShardFault;
-use crate::merging::open_all;
+use crate::merging::{MergePlan, open_all};
+use crate::pairs::{add_pairs, no_pairs, test_totals};
 use crate::rounds::merge_partition;
 use crate::sharing::put_verdict;
 use crate::stream::Part;
 use mr_files::{Store, WriteFault, part_file, part_name};
 use mr_jobs::{Job, Request};
-use mr_shards::{FileNote, ShardFiles, Verdict, note_for};
+use mr_shards::{FileNote, Merger, ShardFiles, Verdict, note_for};
 use mr_store::{CountedRead, CountedWrite, write_all};
 use sha2::{Digest, Sha256};
 use std::alloc::{AllocError, Global};
@@ -51,32 +52,38 @@ fn begin_part<S: Store>(
     }
 }
 
-/// Merges a partition's parts while it reads them, writes and flushes the text, returns its note.
+/// What is merged to one part of the result: of each shard its files and its verdict.
+#[derive(Clone, Copy)]
+pub(crate) struct PartMerge<'a> {
+    pub job: &'a Job,
+    pub files: &'a [ShardFiles],
+    pub verdicts: &'a [Verdict],
+    pub partition: usize,
+}
+
+/// Merges a partition's parts while it reads them, writes and flushes the text, and returns its
+/// note, and the merger, which has counted the pairs of each part.
 fn part_filled<R: CountedRead + Drop, W: CountedWrite + Drop, T: Threads>(
     rt: &T,
     alloc: Global,
-    job: &Job,
-    files: &[ShardFiles],
+    merge: &PartMerge<'_>,
     parts: &mut [Part<R>],
-    verdicts: &[Verdict],
-    partition: usize,
     made: &mut Made<W>,
-) -> Result<FileNote, ShardFault>
-    requires files { length files.now ≡ length parts.old }
-    requires count { length parts.old ≡ length verdicts.now }
+) -> Result<(FileNote, Merger), ShardFault>
+    requires files { length merge.now.files.now ≡ length parts.old }
+    requires count { length parts.old ≡ length merge.now.verdicts.now }
     requires fresh { HasWritten W.seen [] made.old }
-    ensures ok { IfOk result (λ n. (text : List ℕ)
-        × AreJoined R.remaining R.can_fail job.now files.now partition verdicts.now parts.old text
-        × HasWritten W.seen text made.new × (n ≡ note_for (part_file partition) text)) }
+    ensures ok { IfOk result (λ r. (text : List ℕ)
+        × IsJoinedTo R.remaining R.can_fail merge.now parts.old text r.1.held
+        × HasWritten W.seen text made.new × (r.0 ≡ note_for (part_file merge.now.partition) text)) }
     ensures handed { OnOk result ((W.seen made.new.writer).handed_on ≡ (W.seen made.new.writer).contents) }
-    ensures err { IfErr result
-        (λ e. IsRefused R.remaining R.can_fail job.now files.now partition verdicts.now parts.old e
+    ensures err { IfErr result (λ e. IsNotJoined R.remaining R.can_fail merge.now parts.old e
         ⊎ ReportsUnwritten (W.can_fail made.old.writer) (string_bytes made.old.name) e) }
     ensures name { made.new.name ≡ made.old.name }
 {
-    merge_partition(rt, alloc, job, files, parts, verdicts, partition, made)?;
+    let merger = merge_partition(rt, alloc, merge, parts, made)?;
     made.flush(alloc)?;
-    Ok(made.note(alloc, partition)?)
+    Ok((made.note(alloc, merge.partition)?, merger))
 }
 
 /// As `part_filled`, to the part of the result, which it opens and closes.
@@ -84,31 +91,26 @@ fn part_written<S: Store, T: Threads>(
     rt: &T,
     store: &mut S,
     alloc: Global,
-    job: &Job,
-    files: &[ShardFiles],
+    merge: &PartMerge<'_>,
     parts: &mut [Part<S::Reader>],
-    verdicts: &[Verdict],
-    partition: usize,
     dir: &str,
-) -> Result<FileNote, ShardFault>
-    requires files { length files.now ≡ length parts.old }
-    requires count { length parts.old ≡ length verdicts.now }
-    ensures ok { IfOk result
-        (λ n. (text : List ℕ)
-        × AreJoined S.Reader.remaining S.Reader.can_fail
-        job.now files.now partition verdicts.now parts.old text
-        × S.holds store.new (name_of_part dir.now partition) text
-        × (n ≡ note_for (part_file partition) text)) }
-    ensures others { ChangesOnly (S.holds store.old) (S.holds store.new) (name_of_part dir.now partition) }
+) -> Result<(FileNote, Merger), ShardFault>
+    requires files { length merge.now.files.now ≡ length parts.old }
+    requires count { length parts.old ≡ length merge.now.verdicts.now }
+    ensures ok { IfOk result (λ r. (text : List ℕ)
+        × IsJoinedTo S.Reader.remaining S.Reader.can_fail merge.now parts.old text r.1.held
+        × S.holds store.new (name_of_part dir.now merge.now.partition) text
+        × (r.0 ≡ note_for (part_file merge.now.partition) text)) }
+    ensures others { ChangesOnly (S.holds store.old) (S.holds store.new)
+        (name_of_part dir.now merge.now.partition) }
     ensures still { (n : List ℕ) → S.unwritable store.new n → S.unwritable store.old n }
     ensures err { IfErr result
-        (λ e. IsRefused S.Reader.remaining S.Reader.can_fail
-        job.now files.now partition verdicts.now parts.old e
-        ⊎ ReportsUnwritten (S.unwritable store.old (name_of_part dir.now partition))
-        (name_of_part dir.now partition) e) }
+        (λ e. IsNotJoined S.Reader.remaining S.Reader.can_fail merge.now parts.old e
+        ⊎ ReportsUnwritten (S.unwritable store.old (name_of_part dir.now merge.now.partition))
+        (name_of_part dir.now merge.now.partition) e) }
 {
-    let mut made = begin_part(store, alloc, dir, partition)?;
-    let answer = part_filled(rt, alloc, job, files, parts, verdicts, partition, &mut made);
+    let mut made = begin_part(store, alloc, dir, merge.partition)?;
+    let answer = part_filled(rt, alloc, merge, parts, &mut made);
     let Made { name, writer, .. } = made;
     store.close(name.as_str(), writer)?;
     answer
@@ -116,39 +118,47 @@ fn part_written<S: Store, T: Threads>(
 
 /// Merges the partitions in order, each to its part of the result, and returns their notes. It
 /// empties the old verdict first, so none describes parts that are not its own. It reads the parts
-/// of a partition to their ends, where they close, before those of the next.
+/// of a partition to their ends, where they close, before those of the next. Last it compares the
+/// pairs that each shard's parts state with those in its verdict.
 pub(crate) fn partitions_written<S: Store, T: Threads>(
     rt: &T,
     store: &mut S,
     alloc: Global,
+    plan: &MergePlan<'_>,
     request: &Request,
-    names: &[&str],
     verdicts: &[Verdict],
     files: &[ShardFiles],
-    dir: &str,
 ) -> Result<Vec<FileNote>, ShardFault>
-    requires count { length names.now ≡ length verdicts.now }
+    requires count { length plan.now.names.now ≡ length verdicts.now }
     requires few { length (inputs_of verdicts.now) < 2 ^ 32 }
     requires files { files.now ≡ files_told verdicts.now }
-    ensures ok { IfOk result (λ ns. ArePartsWritten (S.holds store.old) (S.holds store.new) request.now
-        (map (λ s. s.now) names.now) verdicts.now dir.now ns.items) }
+    ensures ok { IfOk result (λ ns. AreAllWritten (S.holds store.old) (S.holds store.new) request.now
+        (map (λ s. s.now) plan.now.names.now) verdicts.now plan.now.out.now ns.items) }
     ensures still { (n : List ℕ) → S.unwritable store.new n → S.unwritable store.old n }
     ensures err { IfErr result (IsPartsFault (S.holds store.old) (S.holds store.new)
         (S.unreadable store.old) (S.unwritable store.old)
-        request.now (map (λ s. s.now) names.now) verdicts.now dir.now) }
+        request.now (map (λ s. s.now) plan.now.names.now) verdicts.now plan.now.out.now) }
 {
     let count = request.parts() as usize;
-    let mut rows = open_all(store, alloc, names, verdicts, count)?;
-    put_verdict(store, alloc, dir, b"")?;
+    let mut rows = open_all(store, alloc, plan.names, verdicts, count)?;
+    let mut sums = no_pairs(alloc, verdicts.len())?;
+    let totals = sums.as_mut_slice();
+    put_verdict(store, alloc, plan.out, b"")?;
+    let job = request.job();
     let mut notes = Vec::new(alloc);
     for partition in 0..count {
         let parts = rows[partition].as_mut_slice();
-        let job = request.job();
-        let note = part_written(
-            rt, store, alloc, job, files, parts, verdicts, partition, dir,
-        )?;
+        let merge = PartMerge {
+            job,
+            files,
+            verdicts,
+            partition,
+        };
+        let (note, merger) = part_written(rt, store, alloc, &merge, parts, plan.out)?;
+        add_pairs(totals, &merger);
         notes.push(note).map_err(AllocError::from)?;
     }
+    test_totals(job, verdicts, totals)?;
     Ok(notes)
 }
 

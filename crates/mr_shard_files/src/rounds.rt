@@ -6,8 +6,8 @@
 //! a window only its end is looked for again.
 ghost use Rattle.std.specs.Prelude.{◌≡◌, ◌⊎◌, [], ◌++◌, ℕ, List, Err, Ok, IfErr, IfOk, OnOk};
 ghost use Rattle.std.specs.Prelude.{length, string_bytes};
-ghost use Rattle.mr_shard_files.specs.Streams.{AreBlamed, AreJoined, AreMergedTo, AreNext};
-ghost use Rattle.mr_shard_files.specs.Streams.{AreTaken, IsBlamedOver, IsRefused, IsStopped};
+ghost use Rattle.mr_shard_files.specs.Streams.{AreBlamed, AreMergedTo, AreNext, IsJoinedTo};
+ghost use Rattle.mr_shard_files.specs.Streams.{AreTaken, IsBlamedOver, IsNotJoined, IsStopped};
 ghost use Rattle.mr_shard_files.specs.Streams.{IsStoppedAt};
 ghost use Rattle.mr_shard_files.specs.Streams.{AllAre, AreAllBeside, IsNotBeside, IsRoundFault};
 ghost use Rattle.mr_shard_files.specs.Streams.{MergesHeld, Moves};
@@ -17,12 +17,12 @@ ghost use Rattle.mr_shard_files.specs.declared.fault.ShardFault.TheVariants.{Out
 ghost use Rattle.mr_shard_files.specs.Made.{HasWritten, ReportsUnwritten};
 
 use crate::fault::{ShardFault, of_merge};
-use crate::partition::Made;
+use crate::partition::{Made, PartMerge};
 use crate::stream::Part;
 use crate::streams::{are_done, fill_all, pass_all, settle_all, share_of, windows_of};
 use crate::tails::{all_taken, keep_all, middle_of, tails_of, taken_of_both};
 use mr_jobs::Job;
-use mr_shards::{MergeFault, Merger, ShardFiles, Verdict};
+use mr_shards::{MergeFault, Merger, ShardFiles};
 use mr_store::{CountedRead, CountedWrite};
 use sha2::Sha256;
 use std::alloc::{AllocError, Global};
@@ -224,7 +224,7 @@ fn merge_round<R: CountedRead + Drop, W: CountedWrite + Drop, T: Threads>(
     Ok(merger)
 }
 
-/// Merges the parts in rounds.
+/// Merges the parts in rounds, and returns the merger behind the last one.
 pub(crate) fn merge_rounds<R: CountedRead + Drop, W: CountedWrite + Drop, T: Threads>(
     rt: &T,
     alloc: Global,
@@ -232,11 +232,11 @@ pub(crate) fn merge_rounds<R: CountedRead + Drop, W: CountedWrite + Drop, T: Thr
     files: &[ShardFiles],
     parts: &mut [Part<R>],
     made: &mut Made<W>,
-) -> Result<(), Stop>
+) -> Result<Merger, Stop>
     requires count { length files.now ≡ length parts.old }
     requires fresh { HasWritten W.seen [] made.old }
-    ensures ok { OnOk result ((text : List ℕ)
-        × AreMergedTo R.remaining R.can_fail job.now files.now parts.old parts.new text
+    ensures ok { IfOk result (λ m. (text : List ℕ)
+        × AreMergedTo R.remaining R.can_fail job.now files.now parts.old parts.new text m.held
         × HasWritten W.seen text made.new) }
     ensures err { IfErr result (λ e. IsStopped R.remaining R.can_fail
         (ReportsUnwritten (W.can_fail made.old.writer) (string_bytes made.old.name))
@@ -248,7 +248,7 @@ pub(crate) fn merge_rounds<R: CountedRead + Drop, W: CountedWrite + Drop, T: Thr
     for _ in 0..u64::MAX {
         merger = merge_round(rt, alloc, job, parts, merger, made)?;
         if are_done(parts) {
-            return Ok(());
+            return Ok(merger);
         }
         pass_all(parts, merger.cuts());
     }
@@ -257,32 +257,37 @@ pub(crate) fn merge_rounds<R: CountedRead + Drop, W: CountedWrite + Drop, T: Thr
 }
 
 /// Merges parts while it reads them, writes the text, and compares each part, read to its end, with
-/// its verdict. If they can't be merged, it still reads them to their ends: it reports a wrong part
-/// rather than a bad line.
+/// its verdict. The merger has counted their pairs. If they can't be merged, it still reads them to
+/// their ends: it reports a wrong part rather than a bad line.
 pub(crate) fn merge_partition<R: CountedRead + Drop, W: CountedWrite + Drop, T: Threads>(
     rt: &T,
     alloc: Global,
-    job: &Job,
-    files: &[ShardFiles],
+    merge: &PartMerge<'_>,
     parts: &mut [Part<R>],
-    verdicts: &[Verdict],
-    partition: usize,
     made: &mut Made<W>,
-) -> Result<(), ShardFault>
-    requires files { length files.now ≡ length parts.old }
-    requires count { length parts.old ≡ length verdicts.now }
+) -> Result<Merger, ShardFault>
+    requires files { length merge.now.files.now ≡ length parts.old }
+    requires count { length parts.old ≡ length merge.now.verdicts.now }
     requires fresh { HasWritten W.seen [] made.old }
-    ensures ok { OnOk result ((text : List ℕ)
-        × AreJoined R.remaining R.can_fail job.now files.now partition verdicts.now parts.old text
+    ensures ok { IfOk result (λ m. (text : List ℕ)
+        × IsJoinedTo R.remaining R.can_fail merge.now parts.old text m.held
         × HasWritten W.seen text made.new) }
-    ensures err { IfErr result
-        (λ e. IsRefused R.remaining R.can_fail job.now files.now partition verdicts.now parts.old e
+    ensures err { IfErr result (λ e. IsNotJoined R.remaining R.can_fail merge.now parts.old e
         ⊎ ReportsUnwritten (W.can_fail made.old.writer) (string_bytes made.old.name) e) }
     ensures later { W.can_fail made.new.writer → W.can_fail made.old.writer }
     ensures name { made.new.name ≡ made.old.name }
 {
+    let PartMerge {
+        job,
+        files,
+        verdicts,
+        partition,
+    } = *merge;
     match merge_rounds(rt, alloc, job, files, parts, made) {
-        Ok(()) => settle_all(alloc, parts, verdicts, partition),
+        Ok(merger) => {
+            settle_all(alloc, parts, verdicts, partition)?;
+            Ok(merger)
+        }
         Err(Stop::Part(fault)) => Err(fault),
         Err(Stop::Merge(MergeFault::OutOfMemory)) => Err(ShardFault::OutOfMemory),
         Err(Stop::Merge(fault)) => {

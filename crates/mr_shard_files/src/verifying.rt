@@ -9,19 +9,19 @@ ghost use Rattle.std.specs.Prelude.{◌≡◌, ◌⊎◌, ℕ, ◌++◌, [], ◌
 ghost use Rattle.std.specs.Prelude.{length, option_map, string_bytes, true};
 ghost use Rattle.std.specs.List.{AllByRecursion};
 ghost use Rattle.mr_shards.specs.Truth.{Asks};
-ghost use Rattle.mr_shard_files.specs.declared.fault.ShardFault.TheVariants.{OtherTotal as other_total};
 ghost use Rattle.mr_shard_files.specs.declared.fault.ShardFault.TheVariants.{OutOfMemory as no_memory};
 ghost use Rattle.mr_shard_files.specs.Faults.{IsPartFault};
 ghost use Rattle.mr_shard_files.specs.Streams.{Moves, ReportsUnread, is_done as no_more};
 ghost use Rattle.mr_shard_files.specs.Verified.{AreNoted, IsAboutNone, IsFirstOther, IsFirstRange};
-ghost use Rattle.mr_shard_files.specs.Verified.{IsNotedPart, IsRangeFault, IsTotalOf, IsTrueBeside};
+ghost use Rattle.mr_shard_files.specs.Pairs.{IsTotalOf};
+ghost use Rattle.mr_shard_files.specs.Verified.{IsNotedPart, IsRangeFault, IsTrueBeside};
 ghost use Rattle.mr_shard_files.specs.Verified.{IsUntrue, IsUnverified, IsVerified, StandsInFile};
-ghost use Rattle.mr_shard_files.specs.Verified.{TotalFits, beside_name};
+ghost use Rattle.mr_shard_files.specs.Verified.{beside_name};
 
 use crate::fault::{ShardFault, of_range};
 use crate::listing::verdict_under;
 use crate::merging::open_part;
-use crate::pairs::{pairs_in, sum_of, whole_lines};
+use crate::pairs::{pairs_in, sum_of, test_total, whole_lines};
 use crate::rounds::WINDOW;
 use crate::stream::Part;
 use crate::streams::settle;
@@ -183,33 +183,6 @@ fn request_for(alloc: Global, verdict: &Verdict) -> Result<Request, ShardFault>
     Ok(request)
 }
 
-fn expect_pairs(total: Option<u64>, pairs: u64) -> Result<(), ShardFault>
-    ensures ok { OnOk result (total ≡ Some pairs) }
-    ensures err { IfErr result (λ e. (e ≡ other_total 0) × (total ≡ Some pairs → ⊥)) }
-{
-    if total == Some(pairs) {
-        Ok(())
-    } else {
-        Err(ShardFault::OtherTotal { shard: 0 })
-    }
-}
-
-/// So many pairs are what the lines state; those of an index state none.
-fn test_total(job: &Job, total: Option<u64>, pairs: u64) -> Result<(), ShardFault>
-    ensures ok { OnOk result ((texts : List (List ℕ)) → IsTotalOf job.now texts total
-        → TotalFits job.now texts pairs) }
-    ensures err { IfErr result (λ e. (e ≡ other_total 0) × ((texts : List (List ℕ))
-        → IsTotalOf job.now texts total → TotalFits job.now texts pairs → ⊥)) }
-{
-    if job.counts() {
-        return expect_pairs(total, pairs);
-    }
-    if job.has_lines() {
-        return expect_pairs(total, pairs);
-    }
-    Ok(())
-}
-
 /// The files are those of the verdict.
 fn test_verdict<S: Store>(
     store: &S,
@@ -225,7 +198,7 @@ fn test_verdict<S: Store>(
     let request = request_for(alloc, verdict)?;
     let job = request.job();
     let total = test_parts(store, alloc, job, beside, verdict)?;
-    test_total(job, total, verdict.pairs)?;
+    test_total(job, 0, total, verdict.pairs)?;
     if inputs {
         test_ranges(store, alloc, verdict.inputs.as_slice())
     } else {

@@ -43,13 +43,13 @@ pub returns-in_err-save_verdict-clause-others : goal.returns-in_err-save_verdict
 returns-in_err-save_verdict-clause-others g c =
     let holds = g.S.Store.holds in
     let parts = c.in_ok-request.request.parts in
-    (parts, among_again (holds c.args.store.now) (holds c.partitions_written.new.store) (holds c.save_verdict.new.store) c.args.plan.now.out.now parts c.in_ok-notes.ensures.ok.others c.in_err-save_verdict.ensures.others)
+    (parts, among_again (holds c.args.store.now) (holds c.partitions_written.new.store) (holds c.save_verdict.new.store) c.args.plan.now.out.now parts c.in_ok-notes.ensures.ok.written.others c.in_err-save_verdict.ensures.others)
 
 pub returns-clause-others : goal.returns-clause-others
 returns-clause-others g c =
     let holds = g.S.Store.holds in
     let parts = c.in_ok-request.request.parts in
-    (parts, among_again (holds c.args.store.now) (holds c.partitions_written.new.store) (holds c.save_verdict.new.store) c.args.plan.now.out.now parts c.in_ok-notes.ensures.ok.others c.in_ok-save_verdict.ensures.others)
+    (parts, among_again (holds c.args.store.now) (holds c.partitions_written.new.store) (holds c.save_verdict.new.store) c.args.plan.now.out.now parts c.in_ok-notes.ensures.ok.written.others c.in_ok-save_verdict.ensures.others)
 
 pub returns-in_err-save_verdict-clause-refused : goal.returns-in_err-save_verdict-clause-refused
 returns-in_err-save_verdict-clause-refused g c =

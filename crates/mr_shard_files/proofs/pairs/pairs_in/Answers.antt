@@ -1,6 +1,6 @@
 use Rattle.std.proofs.Common.{◌∙◌, ◌++◌, [], ◌∷◌, append_assoc, append-nil, ap, subst, sym}
 use Rattle.mr_shards.specs.Lines.{lines}
-use Rattle.mr_shard_files.specs.Verified.{IsTotal}
+use Rattle.mr_shard_files.specs.Pairs.{IsTotal}
 use Rattle.mr_shard_files.proofs.PairLemmas.{no-lines, total_more, total_of_line}
 use Rattle.mr_shards.proofs.ReadingLemmas.{lines-next}
 use Rattle.mr_shard_files.proofs.pairs.pairs_in.Goals as goal

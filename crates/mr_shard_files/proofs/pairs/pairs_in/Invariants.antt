@@ -1,6 +1,6 @@
 use Rattle.std.proofs.Common.{◌≡◌, ℕ, ◌++◌, List, length}
 use Rattle.mr_shards.specs.Lines.{lines}
-use Rattle.mr_shard_files.specs.Verified.{IsTotal}
+use Rattle.mr_shard_files.specs.Pairs.{IsTotal}
 use Rattle.mr_shard_files.proofs.pairs.pairs_in.Given as goal
 
 abbrev pub invariant-loop-line : goal.invariant-loop-line

@@ -3,10 +3,10 @@ use Rattle.std.proofs.lemmas.Result.{err_from_is_err_and}
 use Rattle.mr_shard_files.proofs.MadeLemmas.{unwritten_back}
 use Rattle.mr_shard_files.proofs.partition.part_filled.Goals as goal
 
-pub returns-in_err-merge_partition-clause-err : goal.returns-in_err-merge_partition-clause-err
-returns-in_err-merge_partition-clause-err g c =
+pub returns-in_err-merger-clause-err : goal.returns-in_err-merger-clause-err
+returns-in_err-merger-clause-err g c =
     let p = err_from_is_err_and c.from_residual.result c.from_residual.ensures.1 in
-    rw p.1 (rw p.2 c.in_err-merge_partition.ensures.err)
+    rw p.1 (rw p.2 c.in_err-merger.ensures.err)
 
 pub returns-in_err-flush-clause-err : goal.returns-in_err-flush-clause-err
 returns-in_err-flush-clause-err g c =
@@ -22,6 +22,6 @@ returns-in_err-note-clause-err g c =
 
 pub returns-clause-ok : goal.returns-clause-ok
 returns-clause-ok g c =
-    let (text, joined, written) = c.in_ok-merge_partition.ensures.ok in
+    let (text, joined, written) = c.in_ok-merger.ensures.ok in
     let flushed = c.in_ok-flush.ensures.ok text written in
     (text, joined, flushed, c.in_ok-note.ensures text flushed)

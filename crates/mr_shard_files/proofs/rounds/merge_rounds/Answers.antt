@@ -54,6 +54,7 @@ returns-then-are_done-clause-ok g c =
       record {
         passed = c.loop.invariant.passed;
         moved = all_filled remaining can_fail c.loop.invariant.passed c.args.parts.now parts kept parts c.loop.invariant.moved fills;
+        count = c.in_ok-merger-2.ensures.kept.0 ∙ sym c.loop.invariant.count ∙ all_length (Moves remaining can_fail) c.loop.invariant.passed c.args.parts.now parts c.loop.invariant.moved;
         merged = last_round remaining can_fail c.args.job.now c.args.files.now c.loop.invariant.passed parts parts c.loop.merger next written
             c.loop.invariant.stands kept fills c.in_ok-merger-2.ensures.ok (sym c.are_done.ensures ∙ c.if-are_done.true);
       },

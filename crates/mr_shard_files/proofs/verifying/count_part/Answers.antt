@@ -3,7 +3,7 @@ use Rattle.std.proofs.lemmas.Result.{err_from_is_err_and}
 use Rattle.mr_bytes.specs.Cut.{Lacks}
 use Rattle.mr_shards.specs.Lines.{EndsLine, lines}
 use Rattle.mr_shards.proofs.ReadingLemmas.{lines-none}
-use Rattle.mr_shard_files.specs.Verified.{IsTotal, StateTogether}
+use Rattle.mr_shard_files.specs.Pairs.{IsTotal, StateTogether}
 use Rattle.mr_shard_files.proofs.PairLemmas.{ends_behind, last_window, open_window, window_total}
 use Rattle.mr_shard_files.proofs.StreamLemmas.{moves_none, moves_on, unread_back}
 use Rattle.mr_shard_files.proofs.VerifyLemmas.{filled_on}

@@ -1,7 +1,7 @@
 use Rattle.std.proofs.Common.{ℕ, List}
 use Rattle.mr_shards.specs.Lines.{EndsLine, lines}
 use Rattle.mr_shard_files.specs.Streams.{Moves}
-use Rattle.mr_shard_files.specs.Verified.{IsTotal}
+use Rattle.mr_shard_files.specs.Pairs.{IsTotal}
 use Rattle.mr_shard_files.proofs.verifying.count_part.Given as goal
 
 abbrev pub invariant-loop : goal.invariant-loop

@@ -1,5 +1,6 @@
 use Rattle.std.proofs.Common.{◌≡◌, ℕ, List, length}
-use Rattle.mr_shard_files.specs.Verified.{AreNoted, IsTotalOf}
+use Rattle.mr_shard_files.specs.Pairs.{IsTotalOf}
+use Rattle.mr_shard_files.specs.Verified.{AreNoted}
 use Rattle.mr_shard_files.proofs.verifying.test_parts.Given as goal
 
 abbrev pub invariant-loop-partition : goal.invariant-loop-partition

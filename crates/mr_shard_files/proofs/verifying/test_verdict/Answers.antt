@@ -3,7 +3,8 @@ use Rattle.std.proofs.lemmas.Result.{IfOk-weaker}
 use Rattle.std.specs.List.{AllByRecursion}
 use Rattle.mr_jobs.specs.JobSpec.{JobSpec}
 use Rattle.mr_shards.specs.Verdict.{Told}
-use Rattle.mr_shard_files.specs.Verified.{IsTotalOf, StandsInFile, TotalFits}
+use Rattle.mr_shard_files.specs.Pairs.{IsTotalOf, TotalFits}
+use Rattle.mr_shard_files.specs.Verified.{StandsInFile}
 use Rattle.mr_shard_files.proofs.verifying.test_verdict.Goals as goal
 
 pub returns-then-inputs-clause-ok : goal.returns-then-inputs-clause-ok
