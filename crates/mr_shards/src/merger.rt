@@ -234,10 +234,9 @@ fn merge_lines(
 {
     let mut last = None;
     while let Some((at, line)) = next_line(cursors, last) {
-        let Some(next) = advance(job, at, cursors[at])? else {
+        if !advance(job, at, &mut cursors[at])? {
             return Ok(());
-        };
-        cursors[at] = next;
+        }
         waiting.take_line(job, line, out)?;
         last = Some((at, line));
     }
