@@ -13,7 +13,7 @@ ghost use Rattle.mr_shards.specs.Portions.{shifted_value};
 ghost use Rattle.mr_shards.specs.Views.{IsListTo};
 
 use crate::numbers::cut_number;
-use crate::shift::{Shift, shifted_file};
+use crate::shift::Shift;
 use mr_bytes::Value;
 use std::alloc::AllocError;
 
@@ -57,23 +57,24 @@ pub(crate) fn add_places(
         let Some((number, rest)) = next_number(text, before) else {
             return Ok(());
         };
-        let Some(place) = place_in(number, moved) else {
-            return Ok(());
-        };
-        places.push(place)?;
+        places.push(place_in(number, moved))?;
         before = Some(number);
         left = rest;
     }
     Ok(())
 }
 
-/// A place in a file, moved; none if the file's number doesn't fit in 32 bits.
-fn place_in(number: u32, moved: Shift) -> Option<Value>
-    ensures { MatchOption result (2 ^ 32 ≤ moved.files + number) (λ v. v ≡ shifted_value moved (At number 0)) }
+/// A place in a file, moved.
+fn place_in(number: u32, moved: Shift) -> Value
+    requires { moved.files + number < 2 ^ 32 }
+    ensures { result ≡ shifted_value moved (At number 0) }
 {
-    let file = shifted_file(&moved, number as u64)?;
+    let file = moved.files + u64::from(number);
     let offset = if number == 0 { moved.bytes } else { 0 };
-    Some(Value::At { file, offset })
+    Value::At {
+        file: file as u32,
+        offset,
+    }
 }
 
 /// The first number of a list, if it is greater than the last one and fits in 32 bits, and the list
@@ -89,12 +90,13 @@ fn next_number(list: &[u8], last: Option<u32>) -> Option<(u32, Option<&[u8]>)>
     let Some((number, rest)) = cut_number(list) else {
         return None;
     };
-    let Ok(file) = u32::try_from(number) else {
-        return None;
-    };
     if number < least_past(last) {
         return None;
     }
+    if number >= 1 << 32 {
+        return None;
+    }
+    let file = number as u32;
     if rest.is_empty() {
         return Some((file, None));
     }
