@@ -1,5 +1,5 @@
 -- Fields between commas, and numbers that are added one by one.
-use Rattle.std.proofs.Common.{◌≡◌, ℕ, ◌+◌, ◌<◌, ◌≤◌, ◌^◌, cond, eqb, Bool, true, false, List, [], ◌∷◌, ◌++◌, length, map, refl, sym, ◌∙◌, ap, subst, arith, inl, inr, Option, None, Some}
+use Rattle.std.proofs.Common.{◌≡◌, ℕ, ◌+◌, ◌<◌, ◌≤◌, ◌^◌, cond, eqb, Bool, true, false, List, [], ◌∷◌, ◌++◌, length, map, drop, get_or, refl, sym, ◌∙◌, ap, subst, arith, inl, inr, Option, None, Some}
 use Rattle.std.specs.Prelude.{decimal}
 use Rattle.std.proofs.lemmas.Bool.{cases_eq, eq-eqb, ne_eqb}
 use Rattle.std.proofs.lemmas.List.{append-nil}
@@ -17,20 +17,15 @@ use Rattle.mr_sequential.proofs.NameLaws.{less}
 use Rattle.mr_shards.specs.Lines.{fields, longer, numbers_in, places_in}
 use Rattle.mr_bytes.specs.Cut.{Lacks}
 use Rattle.mr_shards.specs.Index.{fields_left, number_past}
+use Rattle.mr_shards.specs.Numbers.{BeginsWith, EndsDigits, IsCutBehind}
 use Rattle.mr_shards.specs.Views.{IsListTo}
 use Rattle.mr_shards.specs.Portions.{Shift, shifted_value}
 use Rattle.mr_bytes.specs.declared.Value.{Value}
 use Rattle.mr_bytes.specs.declared.Value.TheVariants.{At}
 use Rattle.std.specs.Prelude.{IfSome, MatchOption}
 use Rattle.std.specs.Str.Parse.{digits_value}
-use Rattle.std.proofs.lemmas.List.{append_assoc}
-use Rattle.mr_shards.proofs.ReadingLemmas.{fields-commas, fields-last, fields-next, values-read}
-
-pub field-more : (text field rest : List ℕ) → text ≡ field ++ 44 ∷ rest → Lacks 44 field → fields text ≡ field ∷ fields rest
-field-more text field rest e clear = ap fields e ∙ fields-next field rest clear
-
-pub field-last : (text : List ℕ) → Lacks 44 text → fields text ≡ text ∷ []
-field-last text clear = fields-last text clear
+use Rattle.std.proofs.lemmas.List.{append_assoc, length-append}
+use Rattle.mr_shards.proofs.ReadingLemmas.{decimal-lacks, fields-commas, fields-last, fields-next, values-read}
 
 -- ---- fields that were read
 
@@ -85,6 +80,48 @@ rejoined-decimals (n ∷ ns) = ap (λ l. decimal n ++ l) (commas ns)
     commas [] = refl
     commas (m ∷ ms) = ap (λ l. comma m ++ l) (commas ms)
 
+-- ---- a number at the front
+
+-- a comma or nothing is behind a field
+pub field-begins : (text : List ℕ) (n : ℕ) (more : List (List ℕ)) → n < 2 ^ 32 → fields text ≡ decimal n ∷ more → BeginsWith text n (flat_map (λ g. 44 ∷ g) more)
+field-begins text n more small e = record { is = sym (rejoined-fields text) ∙ ap rejoined e; small = omega (arith, small); ends = ends more }
+  where
+    ends : (fs : List (List ℕ)) → EndsDigits (flat_map (λ g. 44 ∷ g) fs)
+    ends [] = tt
+    ends (f ∷ fs) = λ low high. omega (arith, low)
+
+field-one : (text : List ℕ) (n : ℕ) (rest : List ℕ) (m : ℕ) (more : List (List ℕ)) → IsCutBehind text n rest → m < 2 ^ 32 → fields text ≡ decimal m ∷ more
+    → (m ≡ n) × (flat_map (λ g. 44 ∷ g) more ≡ rest)
+field-one text n rest m more cut small e = cut.one m (flat_map (λ g. 44 ∷ g) more) (field-begins text m more small e)
+
+-- it is the number that was cut off
+pub field-same : (text : List ℕ) (n : ℕ) (rest : List ℕ) (m : ℕ) (more : List (List ℕ)) → IsCutBehind text n rest → m < 2 ^ 32 → fields text ≡ decimal m ∷ more → m ≡ n
+field-same text n rest m more cut small e = (field-one text n rest m more cut small e).0
+
+-- and a comma is behind it
+pub field-comma : (text : List ℕ) (n : ℕ) (rest : List ℕ) (m : ℕ) (more : List (List ℕ)) → IsCutBehind text n rest → 0 < length rest → (get_or rest 0 0 ≡ 44 → ⊥) → m < 2 ^ 32
+    → fields text ≡ decimal m ∷ more → ⊥
+field-comma text n rest m more cut some other small e = by more (field-one text n rest m more cut small e).1
+  where
+    by : (fs : List (List ℕ)) → flat_map (λ g. 44 ∷ g) fs ≡ rest → ⊥
+    by [] is = omega (arith, some, ap length is)
+    by (f ∷ fs) is = other (ap (λ l. get_or l 0 0) (sym is))
+
+number-lacks : (n : ℕ) → n < 2 ^ 64 → Lacks 44 (decimal n)
+number-lacks n small = decimal-lacks 44 n (λ h. omega (arith, h.0)) small
+
+pub field-last : (text : List ℕ) (n : ℕ) (rest : List ℕ) → IsCutBehind text n rest → length rest ≡ 0 → fields text ≡ decimal n ∷ []
+field-last text n [] cut none = ap fields (cut.is ∙ append-nil (decimal n)) ∙ fields-last (decimal n) (number-lacks n cut.small)
+field-last text n (b ∷ bs) cut none = absurd (omega (arith, none))
+
+pub field-next : (text : List ℕ) (n : ℕ) (rest : List ℕ) → IsCutBehind text n rest → 0 < length rest → get_or rest 0 0 ≡ 44 → fields text ≡ decimal n ∷ fields (drop 1 rest)
+field-next text n [] cut some comma = absurd (omega (arith, some))
+field-next text n (b ∷ bs) cut some comma =
+    ap fields (cut.is ∙ ap (λ c. decimal n ++ c ∷ bs) comma) ∙ fields-next (decimal n) bs (number-lacks n cut.small)
+
+pub field-shorter : (text : List ℕ) (n : ℕ) (rest : List ℕ) → IsCutBehind text n rest → length rest ≤ length text
+field-shorter text n rest cut = omega (arith, ap length cut.is, length-append (decimal n) rest)
+
 -- the numbers that were read so far, and the last of them
 pub record AreReadSo (told : List ℕ) (left : Option (Bor (List ℕ))) (last : Option ℕ) (done : List ℕ) : Type 0 where
   pub fields_are : fields told ≡ map decimal done ++ fields_left left
@@ -106,14 +143,14 @@ has-last : (xs : List ℕ) (x : ℕ) → Has (xs ++ x ∷ []) x
 has-last [] x = inl refl
 has-last (y ∷ ys) x = inr (has-last ys x)
 
-pub read-more : (told : List ℕ) (text : Bor (List ℕ)) (last : Option ℕ) (done field : List ℕ) (rest : Option (Bor (List ℕ))) (n : ℕ)
-    → AreReadSo told (Some text) last done → fields text.now ≡ field ∷ fields_left rest → field ≡ decimal n → number_past last ≤ n → n < 2 ^ 32
+pub read-more : (told : List ℕ) (text : Bor (List ℕ)) (last : Option ℕ) (done : List ℕ) (rest : Option (Bor (List ℕ))) (n : ℕ)
+    → AreReadSo told (Some text) last done → fields text.now ≡ decimal n ∷ fields_left rest → number_past last ≤ n → n < 2 ^ 32
     → AreReadSo told rest (Some n) (done ++ n ∷ [])
-read-more told text last done field rest n was is told_is low high =
+read-more told text last done rest n was is low high =
     let all : AllByRecursion (λ m. m < n) done = all-weaker (λ m. m < number_past last) (λ m. m < n) done (λ m h. omega (arith, h, low)) was.past in
     record {
       fields_are =
-          was.fields_are ∙ ap (λ l. map decimal done ++ l) (is ∙ ap (λ f. f ∷ fields_left rest) told_is)
+          was.fields_are ∙ ap (λ l. map decimal done ++ l) is
           ∙ fields-append (map decimal done) (decimal n) (fields_left rest) ∙ ap (λ l. l ++ fields_left rest) (sym (map-last done n));
       rise = rises-last done n was.rise all;
       below = all-last (λ m. m < 2 ^ 32) done n was.below high;
@@ -199,10 +236,13 @@ fields-told : (ms : List ℕ) → 0 < length ms → AllByRecursion (λ n. n < 2 
 fields-told [] some small = absurd (omega (arith, some))
 fields-told (m ∷ ms) some small = fields-commas m ms small
 
-pub read-refused : (told : List ℕ) (text : Bor (List ℕ)) (last : Option ℕ) (done field : List ℕ) (more : List (List ℕ)) (end : ℕ)
-    → AreReadSo told (Some text) last done → fields text.now ≡ field ∷ more → ((n : ℕ) → field ≡ decimal n → number_past last ≤ n → n < 2 ^ 32 → ⊥)
-    → IsListTo end told → ⊥
-read-refused told text last done field more end was is none given =
+pub read-refused : (told : List ℕ) (text : Bor (List ℕ)) (last : Option ℕ) (done : List ℕ) (end : ℕ) → AreReadSo told (Some text) last done
+    → ((n : ℕ) (more : List (List ℕ)) → fields text.now ≡ decimal n ∷ more → number_past last ≤ n → n < 2 ^ 32 → ⊥) → IsListTo end told → ⊥
+read-refused told text last done end was none given =
+    let here = fields-some text.now in
+    let field : List ℕ = here.0 in
+    let more : List (List ℕ) = here.1 in
+    let is : fields text.now ≡ field ∷ more = here.2 in
     let ns : List ℕ = given.1.0 in
     let list = given.1.1 in
     let small : AllByRecursion (λ n. n < 2 ^ 64) ns = all-weaker (λ n. n < end + 1) (λ n. n < 2 ^ 64) ns (λ n h. omega (arith, h, given.0)) list.below in
@@ -210,7 +250,7 @@ read-refused told text last done field more end was is none given =
     let w = field-among done ns field more (all-weaker (λ n. n < 2 ^ 32) (λ n. n < 2 ^ 64) done (λ n h. omega (arith, h)) was.below) small
     (sym (was.fields_are ∙ ap (λ l. map decimal done ++ l) is) ∙ all) in
     let there = number-there (end + 1) (number_past last) done ns w.0 w.1 w.2 list.rise list.below was.least_is in
-    none w.0 w.3 there.0 (omega (arith, there.1, given.0))
+    none w.0 more (is ∙ ap (λ f. f ∷ more) w.3) there.0 (omega (arith, there.1, given.0))
 
 -- ---- places of the numbers
 
@@ -226,18 +266,18 @@ places-more s old mid new done n v was is e =
     ∙ ap (λ l. old ++ l) (sym (placed-last s done n))
 
 -- what was read of a list is below its last number
-pub read-fits : (told : List ℕ) (text : Bor (List ℕ)) (before : Option ℕ) (done field : List ℕ) (more : List (List ℕ)) (last n : ℕ) → AreReadSo told (Some text) before done
-    → fields text.now ≡ field ∷ more → field ≡ decimal n → n < 2 ^ 32 → IsListTo last told → n ≤ last
-read-fits told text before done field more last n was is told_is high given =
+pub read-fits : (told : List ℕ) (text : Bor (List ℕ)) (before : Option ℕ) (done : List ℕ) (more : List (List ℕ)) (last n : ℕ) → AreReadSo told (Some text) before done
+    → fields text.now ≡ decimal n ∷ more → n < 2 ^ 32 → IsListTo last told → n ≤ last
+read-fits told text before done more last n was is high given =
     let ns : List ℕ = given.1.0 in
     let list = given.1.1 in
     let small : AllByRecursion (λ n. n < 2 ^ 64) ns = all-weaker (λ n. n < last + 1) (λ n. n < 2 ^ 64) ns (λ n h. omega (arith, h, given.0)) list.below in
     let all : fields told ≡ map decimal ns = ap fields list.text ∙ fields-told ns list.some small in
-    let w = field-among done ns field more (all-weaker (λ n. n < 2 ^ 32) (λ n. n < 2 ^ 64) done (λ n h. omega (arith, h)) was.below) small
+    let w = field-among done ns (decimal n) more (all-weaker (λ n. n < 2 ^ 32) (λ n. n < 2 ^ 64) done (λ n h. omega (arith, h)) was.below) small
     (sym (was.fields_are ∙ ap (λ l. map decimal done ++ l) is) ∙ all) in
     let m : ℕ = w.0 in
     let low : m < last + 1 = below-through (λ k. k < last + 1) done m w.1 (subst (AllByRecursion (λ k. k < last + 1)) w.2 list.below) in
-    let same : n ≡ m = decimal_injective n m (omega (arith, high)) (omega (arith, low, given.0)) (sym told_is ∙ w.3) in
+    let same : n ≡ m = decimal_injective n m (omega (arith, high)) (omega (arith, low, given.0)) w.3 in
     omega (arith, low, same)
 
 -- all places are those of the list

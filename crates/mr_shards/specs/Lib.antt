@@ -2,6 +2,7 @@ pub mod Cursors
 pub mod Judged
 pub mod Lines
 pub mod Merged
+pub mod Numbers
 pub mod Outputs
 pub mod Rounds
 pub mod Refused

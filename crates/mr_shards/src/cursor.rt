@@ -141,21 +141,18 @@ fn may_follow(job: &Job, last: Option<Line<'_>>, line: Line<'_>) -> bool
     }
 }
 
-/// Reads the line behind the head. None if it isn't whole yet.
-pub(crate) fn advance<'a>(
-    job: &Job,
-    shard: usize,
-    cursor: Cursor<'a>,
-) -> Result<Option<Cursor<'a>>, MergeFault>
-    requires { IsFronted cursor.head }
-    ensures some { IfOk result (λ o. IfSome o (IsAdvanced job.now cursor.entry)) }
-    ensures none { IfOk result (λ o. o ≡ None → Lacks 10 cursor.entry.rest.now × (cursor.entry.is_last ≡ false)) }
-    ensures err { IfErr result (λ e. (more : List ℕ) → MayGoOn cursor.entry.is_last more
-        → BlamesNext job.now shard (on cursor.entry more) e) }
+/// Moves to the line behind the head. If that isn't whole yet, returns false and stays.
+pub(crate) fn advance(job: &Job, shard: usize, cursor: &mut Cursor<'_>) -> Result<bool, MergeFault>
+    requires { IsFronted cursor.old.head }
+    ensures moves { IfOk result (λ b. IsTrue b → IsAdvanced job.now cursor.old cursor.new) }
+    ensures stays { IfOk result (λ b. b ≡ false → (cursor.new ≡ cursor.old) × Lacks 10 cursor.old.rest.now
+        × (cursor.old.is_last ≡ false)) }
+    ensures err { IfErr result (λ e. (more : List ℕ) → MayGoOn cursor.old.is_last more
+        → BlamesNext job.now shard (on cursor.old more) e) }
 {
-    let held = held_behind(&cursor);
+    let held = held_behind(cursor);
     let Some(next) = read_line(job, shard, held, cursor.rest, cursor.is_last)? else {
-        return Ok(None);
+        return Ok(false);
     };
     if let Some(line) = next.head {
         if !may_follow(job, cursor.head, line) {
@@ -165,7 +162,8 @@ pub(crate) fn advance<'a>(
             });
         }
     }
-    Ok(Some(next))
+    *cursor = next;
+    Ok(true)
 }
 
 /// Whether a line's key is less. `front` decides where it differs; else most keys are equal.

@@ -4,7 +4,7 @@
 //! its files, where the lines of its key are joined (`waiting.rt`). Each file is a place there, moved
 //! as the places of the shard move. Invariant: the numbers rise. Cost: one pass over the text each.
 ghost use Rattle.std.specs.Prelude.{◌≡◌, ◌+◌, ◌<◌, ◌≤◌, ◌^◌, ◌∷◌, ◌++◌, ℕ, IfSome, None};
-ghost use Rattle.std.specs.Prelude.{OnOk, MatchOption, decimal, length, map};
+ghost use Rattle.std.specs.Prelude.{List, OnOk, MatchOption, decimal, length, map};
 ghost use Rattle.mr_bytes.specs.declared.Value.TheVariants.{At};
 ghost use Rattle.mr_shards.specs.Lines.{fields, numbers_in, places_in};
 ghost use Rattle.mr_shards.specs.Index.{NumbersMove, NumbersRead};
@@ -12,9 +12,9 @@ ghost use Rattle.mr_shards.specs.Index.{fields_left, number_past, size_left};
 ghost use Rattle.mr_shards.specs.Portions.{shifted_value};
 ghost use Rattle.mr_shards.specs.Views.{IsListTo};
 
-use crate::line::number_of;
-use crate::shift::{Shift, shifted_file};
-use mr_bytes::{Value, cut};
+use crate::numbers::cut_number;
+use crate::shift::Shift;
+use mr_bytes::Value;
 use std::alloc::AllocError;
 
 /// Moved files are moved numbers, and a list of numbers is read back from its text.
@@ -30,8 +30,7 @@ pub(crate) fn last_file(list: &[u8]) -> Option<u32>
     let mut left = Some(list);
     let mut last = None;
     while let Some(text) = left {
-        let (field, rest) = next_field(text);
-        let Some(number) = file_past(field, last) else {
+        let Some((number, rest)) = next_number(text, last) else {
             return None;
         };
         last = Some(number);
@@ -55,47 +54,40 @@ pub(crate) fn add_places(
     let mut left = Some(list);
     let mut before = None;
     while let Some(text) = left {
-        let (field, rest) = next_field(text);
-        let Some(number) = file_past(field, before) else {
+        let Some((number, rest)) = next_number(text, before) else {
             return Ok(());
         };
-        let Some(place) = place_in(number, moved) else {
-            return Ok(());
-        };
-        places.push(place)?;
+        places.push(place_in(number, moved))?;
         before = Some(number);
         left = rest;
     }
     Ok(())
 }
 
-/// A place in a file, moved; none if the file's number doesn't fit in 32 bits.
-fn place_in(number: u32, moved: Shift) -> Option<Value>
-    ensures { MatchOption result (2 ^ 32 ≤ moved.files + number) (λ v. v ≡ shifted_value moved (At number 0)) }
+/// A place in a file, moved.
+fn place_in(number: u32, moved: Shift) -> Value
+    requires { moved.files + number < 2 ^ 32 }
+    ensures { result ≡ shifted_value moved (At number 0) }
 {
-    let file = shifted_file(&moved, number as u64)?;
+    let file = moved.files + u64::from(number);
     let offset = if number == 0 { moved.bytes } else { 0 };
-    Some(Value::At { file, offset })
-}
-
-/// The bytes before the first comma, and those behind it if there is one.
-fn next_field(text: &[u8]) -> (&[u8], Option<&[u8]>)
-    ensures fields { fields text.entry.now ≡ result.0.now ∷ fields_left result.1 }
-    ensures shorter { size_left result.1 ≤ length text.entry.now }
-{
-    match cut(text, b',') {
-        Some((field, rest)) => (field, Some(rest)),
-        None => (text, None),
+    Value::At {
+        file: file as u32,
+        offset,
     }
 }
 
-/// The number in a field, if it is greater than the last one and fits in 32 bits.
-fn file_past(field: &[u8], last: Option<u32>) -> Option<u32>
-    ensures number { IfSome result (λ n. field.now ≡ decimal n) }
-    ensures past { IfSome result (λ n. number_past last ≤ n) }
-    ensures none { result ≡ None → (n : ℕ) → field.now ≡ decimal n → number_past last ≤ n → n < 2 ^ 32 → ⊥ }
+/// The first number of a list, if it is greater than the last one and fits in 32 bits, and the list
+/// behind its comma if there is one.
+#[inline(always)]
+fn next_number(list: &[u8], last: Option<u32>) -> Option<(u32, Option<&[u8]>)>
+    ensures number { IfSome result (λ r. fields list.entry.now ≡ decimal r.0 ∷ fields_left r.1) }
+    ensures past { IfSome result (λ r. (number_past last ≤ r.0) × (r.0 < 2 ^ 32)) }
+    ensures shorter { IfSome result (λ r. size_left r.1 ≤ length list.entry.now) }
+    ensures none { result ≡ None → (n : ℕ) (more : List (List ℕ)) → fields list.entry.now ≡ decimal n ∷ more
+        → number_past last ≤ n → n < 2 ^ 32 → ⊥ }
 {
-    let Some(number) = number_of(field) else {
+    let Some((number, rest)) = cut_number(list) else {
         return None;
     };
     if number < least_past(last) {
@@ -104,7 +96,14 @@ fn file_past(field: &[u8], last: Option<u32>) -> Option<u32>
     if number >= 1 << 32 {
         return None;
     }
-    Some(number as u32)
+    let file = number as u32;
+    if rest.is_empty() {
+        return Some((file, None));
+    }
+    if rest[0] != b',' {
+        return None;
+    }
+    Some((file, Some(&rest[1..])))
 }
 
 fn least_past(last: Option<u32>) -> u64

@@ -9,6 +9,7 @@ mod file_numbers;
 mod joining;
 mod line;
 mod merger;
+mod numbers;
 mod portions;
 mod ranges;
 mod reading;
@@ -23,8 +24,9 @@ ghost use Rattle.mr_shards.specs.Laws.{OneText};
 
 pub use file_numbers::index_law;
 pub use joining::{JoinFault, first_repeat, join_verdicts, joined_law};
-pub use line::{cut_first, cut_last, number_of};
+pub use line::{cut_first, cut_last};
 pub use merger::{MergeFault, Merger, ShardText, Window, merge_parts};
+pub use numbers::number_of;
 pub use portions::{left_out_law, lines_law, portions_law, worked_law};
 pub use ranges::{FileRange, Gap, first_gap, goes_on, ranges_law, tile_law};
 pub use reading::read_verdict;

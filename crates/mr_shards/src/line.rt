@@ -15,8 +15,8 @@ ghost use Rattle.mr_shards.specs.Views.{group_of, values_of};
 
 use crate::file_numbers::last_file;
 use crate::merger::MergeFault;
+use crate::numbers::number_of;
 use crate::shift::{Shift, shifted_file, shifted_start};
-use itoa::Buffer;
 use memchr::{memchr, memrchr};
 use mr_group::front_of;
 use mr_jobs::Job;
@@ -64,66 +64,6 @@ pub fn cut_last(text: &[u8], mark: u8) -> Option<(&[u8], &[u8])>
     match memrchr(mark, text) {
         Some(at) => Some((&text[..at], &text[at + 1..])),
         None => None,
-    }
-}
-
-/// None if the byte is no digit, or if the number may be too large.
-#[inline(always)]
-fn with_digit(value: u64, digit: u8) -> Option<u64>
-    ensures { IfSome result (λ n. (48 ≤ digit) × (digit ≤ 57) × (n + 48 ≡ value * 10 + digit) × (n < 2 ^ 64)) }
-{
-    if value > 1_000_000_000_000_000_000 || digit < b'0' || digit > b'9' {
-        None
-    } else {
-        Some(value * 10 + u64::from(digit - b'0'))
-    }
-}
-
-/// Reads the digits in one pass. It returns none for 0 and the largest numbers too.
-fn read_number(digits: &[u8]) -> Option<u64>
-    ensures { IfSome result (λ n. digits.now ≡ decimal n) }
-{
-    if digits.is_empty() {
-        return None;
-    }
-    if digits[0] == b'0' {
-        return None;
-    }
-    let mut value = 0;
-    for at in 0..digits.len() {
-        let Some(next) = with_digit(value, digits[at]) else {
-            return None;
-        };
-        value = next;
-    }
-    Some(value)
-}
-
-/// Parses the digits and compares them with the number's own text.
-fn checked_number(digits: &[u8]) -> Option<u64>
-    ensures { MatchOption result ((n : ℕ) → n < 2 ^ 64 → digits.now ≡ decimal n → ⊥) (λ n. digits.now ≡ decimal n) }
-{
-    let Ok(text) = str::from_utf8(digits) else {
-        return None;
-    };
-    let Ok(value) = text.parse::<u64>() else {
-        return None;
-    };
-    let mut buffer = Buffer::new();
-    if buffer.format(value).as_bytes() == digits {
-        Some(value)
-    } else {
-        None
-    }
-}
-
-/// Parses a number as outputs write it: without leading zeros, below 2^64.
-pub fn number_of(digits: &[u8]) -> Option<u64>
-    ensures { MatchOption result ((n : ℕ) → n < 2 ^ 64 → digits.now ≡ decimal n → ⊥) (λ n. digits.now ≡ decimal n) }
-{
-    match read_number(digits) {
-        Some(value) => Some(value),
-        None => checked_number(digits),
     }
 }
 

@@ -22,7 +22,7 @@ ghost use Rattle.mr_shards.specs.Spots.{Spot as Beginning};
 ghost use Rattle.mr_shards.specs.Verdict.{Note, Told, note_told, place_told, range_told, spelled};
 ghost use Rattle.mr_shards.specs.Verdict.{spelling, spot_told};
 
-use crate::line::number_of;
+use crate::numbers::number_of;
 use crate::ranges::FileRange;
 use crate::shift::Spot;
 use crate::verdict::{FileNote, Verdict, VerdictFault, text_of};

@@ -12,21 +12,21 @@ use Rattle.mr_shards.proofs.cursor.advance.Goals as goal
 
 pub returns-in_err-next-clause-err : goal.returns-in_err-next-clause-err
 returns-in_err-next-clause-err c =
-    handed (λ (e : MergeFault). (more : List ℕ) → MayGoOn c.args.cursor.is_last more → BlamesNext c.args.job.now c.args.shard (on c.args.cursor more) e)
+    handed (λ (e : MergeFault). (more : List ℕ) → MayGoOn c.args.cursor.now.is_last more → BlamesNext c.args.job.now c.args.shard (on c.args.cursor.now more) e)
     c.from_residual.result c.in_err-next.field-0.0 (err_from_is_err_and c.from_residual.result c.from_residual.ensures.1)
-    (λ more may. blames-passed c.args.job.now c.args.shard c.args.cursor c.held_behind-held.result more c.in_err-next.field-0.0 c.held_behind-held.ensures
+    (λ more may. blames-passed c.args.job.now c.args.shard c.args.cursor.now c.held_behind-held.result more c.in_err-next.field-0.0 c.held_behind-held.ensures
     (c.in_err-next.ensures.err more may))
 
 pub returns-then-not-may_follow-clause-err : goal.returns-then-not-may_follow-clause-err
 returns-then-not-may_follow-clause-err c = λ more may.
-    let o = subst (λ (x : Option Cursor). IfSome x (IsOpen c.args.job.now c.held_behind-held.result c.args.cursor.rest.now c.args.cursor.is_last)) c.in-Some.is c.in_ok-next.ensures.some in
-    let rest = c.args.cursor.rest.now in
+    let o = subst (λ (x : Option Cursor). IfSome x (IsOpen c.args.job.now c.held_behind-held.result c.args.cursor.now.rest.now c.args.cursor.now.is_last)) c.in-Some.is c.in_ok-next.ensures.some in
+    let rest = c.args.cursor.now.rest.now in
     let next = c.in-Some.next in
     let w = subst (IsHeadOf c.args.job.now next) c.in-Some-head.is o.head in
     let is : rest ++ more ≡ w.line ++ 10 ∷ (next.rest.now ++ more) = ap (λ (t : List ℕ). t ++ more) (sym o.text_is) ∙ head-text c.args.job.now next c.in-Some-head.line more w in
-    let last = last_key c.args.cursor.head in (
+    let last = last_key c.args.cursor.now.head in (
       refl,
-      ap (λ (h : Held). h.lines) c.held_behind-held.ensures ∙ passed-lines c.args.cursor.head c.args.cursor.held,
+      ap (λ (h : Held). h.lines) c.held_behind-held.ensures ∙ passed-lines c.args.cursor.now.head c.args.cursor.now.held,
       some-bytes w.line (next.rest.now ++ more) (rest ++ more) is,
       λ g more' l follows e.
           (let f = (o.at more may).first last (one-first c.args.job.now last (rest ++ more) g more' l e follows) in

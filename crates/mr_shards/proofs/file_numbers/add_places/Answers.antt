@@ -1,37 +1,33 @@
-use Rattle.std.proofs.Common.{◌++◌, ◌<◌, ◌≤◌, ◌^◌, [], ◌∷◌, ℕ, List, Option, Bor, refl, subst, arith}
+use Rattle.std.proofs.Common.{◌++◌, ◌≤◌, [], ◌∷◌, ℕ, List, Option, Bor, refl, subst, arith}
 use Rattle.mr_shards.specs.Index.{fields_left}
 use Rattle.mr_shards.proofs.FieldLemmas.{AreReadSo, places-all, places-more, read-fits, read-more, read-refused}
 use Rattle.mr_shards.proofs.file_numbers.add_places.Goals as goal
 
-pub returns-in_default-file_past : goal.returns-in_default-file_past
-returns-in_default-file_past c =
+pub returns-in_default-next_number : goal.returns-in_default-next_number
+returns-in_default-next_number c =
     let was = c.loop-left.invariant in
     let so = subst (λ (o : Option (Bor (List ℕ))). AreReadSo c.args.list.now o c.loop-left.before was.0) c.in-Some.is was.1 in
-    let no : ⊥ = read-refused c.args.list.now c.in-Some.text c.loop-left.before was.0 c.next_field.result.0.now (fields_left c.next_field.result.1) c.args.last so
-    c.next_field.ensures.fields (c.in_default-file_past.ensures.none refl) c.requires.list in
+    let no : ⊥ = read-refused c.args.list.now c.in-Some.text c.loop-left.before was.0 c.args.last so (c.in_default-next_number.ensures.none refl) c.requires.list in
     absurd no
 
-pub returns-in_default-place_in : goal.returns-in_default-place_in
-returns-in_default-place_in c =
+pub place_in-requires : goal.place_in-requires
+place_in-requires c =
     let was = c.loop-left.invariant in
     let so = subst (λ (o : Option (Bor (List ℕ))). AreReadSo c.args.list.now o c.loop-left.before was.0) c.in-Some.is was.1 in
-    let small : c.in-Some-file_past.number < 2 ^ 32 = omega arith in
-    let fits : c.in-Some-file_past.number ≤ c.args.last =
-    read-fits c.args.list.now c.in-Some.text c.loop-left.before was.0 c.next_field.result.0.now (fields_left c.next_field.result.1) c.args.last c.in-Some-file_past.number so
-    c.next_field.ensures.fields c.in-Some-file_past.ensures.number small c.requires.list in
-    let no : ⊥ = omega (arith, fits, c.requires.fits, c.in_default-place_in.ensures) in
-    absurd no
+    let next = c.in-Some-next_number in
+    let fits : next.number ≤ c.args.last =
+    read-fits c.args.list.now c.in-Some.text c.loop-left.before was.0 (fields_left next.rest) c.args.last next.number so next.ensures.number next.ensures.past.1 c.requires.list in
+    omega (arith, fits, c.requires.fits)
 
 pub loop-left-preserved : goal.loop-left-preserved
 loop-left-preserved c =
     let was = c.loop-left.invariant in
     let so = subst (λ (o : Option (Bor (List ℕ))). AreReadSo c.args.list.now o c.loop-left.before was.0) c.in-Some.is was.1 in
-    let small : c.in-Some-file_past.number < 2 ^ 32 = omega arith in (
-      was.0 ++ c.in-Some-file_past.number ∷ [],
-      read-more c.args.list.now c.in-Some.text c.loop-left.before was.0 c.next_field.result.0.now c.next_field.result.1 c.in-Some-file_past.number so c.next_field.ensures.fields
-          c.in-Some-file_past.ensures.number c.in-Some-file_past.ensures.past small,
-      places-more c.args.moved c.args.places.now.items c.loop-left.places.items c.push.new.self.items was.0 c.in-Some-file_past.number c.in-Some-place_in.place was.2
-          c.in-Some-place_in.ensures c.in_ok-push.ensures.items,
+    let next = c.in-Some-next_number in (
+      was.0 ++ next.number ∷ [],
+      read-more c.args.list.now c.in-Some.text c.loop-left.before was.0 next.rest next.number so next.ensures.number next.ensures.past.0 next.ensures.past.1,
+      places-more c.args.moved c.args.places.now.items c.loop-left.places.items c.push.new.self.items was.0 next.number c.place_in.result was.2 c.place_in.ensures
+          c.in_ok-push.ensures.items,
     )
 
 pub returns : goal.returns

@@ -1,14 +1,13 @@
-use Rattle.std.proofs.Common.{◌≡◌, ◌∙◌, ◌++◌, ap, sym, subst, inl, inr, arith, set, Some, None, ℕ, List, Option}
-use Rattle.std.specs.Prelude.{IfSome}
+use Rattle.std.proofs.Common.{◌≡◌, ◌∙◌, ◌++◌, ◌⊎◌, get_or, ap, sym, subst, inl, inr, arith, set, Some, None, ℕ, List, Option}
 use Rattle.std.specs.List.{AllByRecursion}
-use Rattle.std.proofs.lemmas.List.{append-nil}
+use Rattle.std.proofs.lemmas.List.{append-nil, set-get_or}
 use Rattle.std.proofs.lemmas.Result.{err_from_is_err_and}
 use Rattle.mr_shards.specs.declared.cursor.Cursor.{Cursor}
 use Rattle.mr_shards.specs.declared.line.Line.{Line}
-use Rattle.mr_shards.specs.Cursors.{AreBehind, BlamesNext, IsAdvanced, IsFronted, IsHeadOf, MayGoOn, least_from, on}
+use Rattle.mr_shards.specs.Cursors.{AreBehind, AreEnded, BlamesNext, IsAdvanced, IsFronted, IsHeadOf, MayGoOn, least_from, on}
 use Rattle.mr_bytes.specs.Cut as Cut
 use Rattle.mr_shards.specs.Merged.{Group}
-use Rattle.mr_shards.specs.Rounds.{BlamesGoing, IsGoing}
+use Rattle.mr_shards.specs.Rounds.{BlamesGoing, HasDryHead, IsGoing}
 use Rattle.mr_shards.specs.Views.{waiting_group, waits}
 use Rattle.mr_shards.proofs.FrontLemmas.{all-at}
 use Rattle.mr_shards.proofs.LoopLemmas.{least-within}
@@ -41,13 +40,6 @@ next_line-requires-clause-heads c =
 pub next_line-requires-clause-behind : goal.next_line-requires-clause-behind
 next_line-requires-clause-behind c = subst (AreBehind c.loop-at.last) (sym c.deref.ensures.value) c.loop-at.invariant.behind
 
-pub index-requires : goal.index-requires
-index-requires c =
-    let cs = c.loop-at.cursors.items in
-    let l = least-within cs c.in-Some.at c.in-Some.line
-    (least cs c.in-Some.at c.in-Some.line (same-least cs c.deref.result.now c.next_line.result c.in-Some.at c.in-Some.line c.deref.ensures.value c.next_line.ensures c.in-Some.is)) in
-    omega (arith, l, c.loop-at.cursors.ok.0)
-
 pub index_mut-requires : goal.index_mut-requires
 index_mut-requires c =
     let cs = c.loop-at.cursors.items in
@@ -60,57 +52,65 @@ advance-requires c =
     let cs = c.loop-at.cursors.items in
     let l = least-within cs c.in-Some.at c.in-Some.line
     (least cs c.in-Some.at c.in-Some.line (same-least cs c.deref.result.now c.next_line.result c.in-Some.at c.in-Some.line c.deref.ensures.value c.next_line.ensures c.in-Some.is)) in
-    subst (λ (q : Cursor). IsFronted q.head) (sym c.index.ensures)
-    (all-at (λ (q : Cursor). IsFronted q.head) cs c.in-Some.at c.index.result.now (heads-fronted c.args.job.now cs c.loop-at.invariant.heads) l)
+    subst (λ (q : Cursor). IsFronted q.head) (sym c.index_mut.ensures.value)
+    (all-at (λ (q : Cursor). IsFronted q.head) cs c.in-Some.at c.index_mut.result.now (heads-fronted c.args.job.now cs c.loop-at.invariant.heads) l)
 
-pub returns-in_err-next-clause-err : goal.returns-in_err-next-clause-err
-returns-in_err-next-clause-err c =
+pub returns-in_err-advance-clause-err : goal.returns-in_err-advance-clause-err
+returns-in_err-advance-clause-err c =
     let job = c.args.job.now in
     let cs = c.loop-at.cursors.items in
     let at = c.in-Some.at in
-    let one = c.index.result.now in
+    let one = c.index_mut.result.now in
     let l = least-within cs at c.in-Some.line
     (least cs at c.in-Some.line (same-least cs c.deref.result.now c.next_line.result at c.in-Some.line c.deref.ensures.value c.next_line.ensures c.in-Some.is)) in
-    handed (BlamesGoing job c.args.cursors.now.items (waits c.args.waiting.now)) c.from_residual.result c.in_err-next.field-0.0
+    handed (BlamesGoing job c.args.cursors.now.items (waits c.args.waiting.now)) c.from_residual.result c.in_err-advance.field-0.0
     (err_from_is_err_and c.from_residual.result c.from_residual.ensures.1)
-    (λ os f text g. going-blames job os f cs at one (waits c.loop-at.waiting) (text ++ c.loop-at.out.items) c.in_err-next.field-0.0 l (c.loop-at.invariant.goes os f text g)
-    (subst (λ (q : Cursor). (more : List ℕ) → MayGoOn q.is_last more → BlamesNext job at (on q more) c.in_err-next.field-0.0) c.index.ensures c.in_err-next.ensures.err))
+    (λ os f text g. going-blames job os f cs at one (waits c.loop-at.waiting) (text ++ c.loop-at.out.items) c.in_err-advance.field-0.0 l (c.loop-at.invariant.goes os f text g)
+    (subst (λ (q : Cursor). (more : List ℕ) → MayGoOn q.is_last more → BlamesNext job at (on q more) c.in_err-advance.field-0.0) c.index_mut.ensures.value c.in_err-advance.ensures.err))
 
-pub returns-in_default-2-clause-ends : goal.returns-in_default-2-clause-ends
-returns-in_default-2-clause-ends c =
+-- a cursor that stays is written back
+same-cursors : (cs : List Cursor) (at : ℕ) (one d next : Cursor) → one ≡ get_or cs at d → next ≡ one → set cs at next ≡ cs
+same-cursors cs at one d next is stays = ap (set cs at) (stays ∙ is) ∙ set-get_or cs at d
+
+pub returns-then-not-branch-clause-goes : goal.returns-then-not-branch-clause-goes
+returns-then-not-branch-clause-goes c = λ os f text g.
+    let stays = c.in_ok-advance.ensures.stays c.if-not-branch.true in
+    let same = same-cursors c.loop-at.cursors.items c.in-Some.at c.index_mut.result.now _ c.advance.new.cursor c.index_mut.ensures.value stays.0 in
+    subst (λ (cs : List Cursor). IsGoing c.args.job.now os f cs (waits c.loop-at.waiting) (text ++ c.loop-at.out.items)) (sym same) (c.loop-at.invariant.goes os f text g)
+
+pub returns-then-not-branch-clause-ends : goal.returns-then-not-branch-clause-ends
+returns-then-not-branch-clause-ends c =
     let job = c.args.job.now in
     let cs = c.loop-at.cursors.items in
     let at = c.in-Some.at in
-    let one = c.index.result.now in
+    let one = c.index_mut.result.now in
     let b = least cs at c.in-Some.line (same-least cs c.deref.result.now c.next_line.result at c.in-Some.line c.deref.ensures.value c.next_line.ensures c.in-Some.is) in
     let l = least-within cs at c.in-Some.line b in
-    let n = c.in_ok-next.ensures.none c.in_default-2.is in
-    inr (dry-head job cs at one c.in-Some.line l (whole-head job cs at one c.in-Some.line b l c.loop-at.invariant.heads)
-    (subst (λ (q : Cursor). Cut.Lacks 10 q.rest.now) c.index.ensures n.0) (ap (λ (q : Cursor). q.is_last) (sym c.index.ensures) ∙ n.1))
+    let n = c.in_ok-advance.ensures.stays c.if-not-branch.true in
+    let same = same-cursors cs at one _ c.advance.new.cursor c.index_mut.ensures.value n.0 in
+    subst (λ (qs : List Cursor). AreEnded qs ⊎ HasDryHead qs) (sym same)
+    (inr (dry-head job cs at one c.in-Some.line l (whole-head job cs at one c.in-Some.line b l c.loop-at.invariant.heads)
+    (subst (λ (q : Cursor). Cut.Lacks 10 q.rest.now) c.index_mut.ensures.value n.1) (ap (λ (q : Cursor). q.is_last) (sym c.index_mut.ensures.value) ∙ n.2)))
 
 pub take_line-requires-clause-line : goal.take_line-requires-clause-line
 take_line-requires-clause-line c =
     let cs = c.loop-at.cursors.items in
     let at = c.in-Some.at in
     let b = least cs at c.in-Some.line (same-least cs c.deref.result.now c.next_line.result at c.in-Some.line c.deref.ensures.value c.next_line.ensures c.in-Some.is) in
-    (whole-head c.args.job.now cs at c.index.result.now c.in-Some.line b (least-within cs at c.in-Some.line b) c.loop-at.invariant.heads).kind
-
--- the cursor that advanced
-advanced : (o : Option Cursor) (one get next : Cursor) (P : Cursor → Cursor → Type 0) → one ≡ get → o ≡ Some next → IfSome o (P one) → P get next
-advanced o one get next P same is h = subst (λ (q : Cursor). P q next) same (subst (λ (x : Option Cursor). IfSome x (P one)) is h)
+    (whole-head c.args.job.now cs at c.index_mut.result.now c.in-Some.line b (least-within cs at c.in-Some.line b) c.loop-at.invariant.heads).kind
 
 pub returns-in_err-take_line-clause-err : goal.returns-in_err-take_line-clause-err
 returns-in_err-take_line-clause-err c =
     let job = c.args.job.now in
     let cs = c.loop-at.cursors.items in
     let at = c.in-Some.at in
-    let one = c.index.result.now in
+    let one = c.index_mut.result.now in
     let e = same-least cs c.deref.result.now c.next_line.result at c.in-Some.line c.deref.ensures.value c.next_line.ensures c.in-Some.is in
     let l = least-within cs at c.in-Some.line (least cs at c.in-Some.line e) in
-    let a = advanced c.in_ok-next.field-0 one _ c.in-Some-2.next (IsAdvanced job) c.index.ensures c.in-Some-2.is c.in_ok-next.ensures.some in
+    let a = subst (λ (q : Cursor). IsAdvanced job q c.advance.new.cursor) c.index_mut.ensures.value (c.in_ok-advance.ensures.moves c.if-not-branch.false) in
     handed (BlamesGoing job c.args.cursors.now.items (waits c.args.waiting.now)) c.from_residual-in_err-take_line.result c.in_err-take_line.field-0.0
     (err_from_is_err_and c.from_residual-in_err-take_line.result c.from_residual-in_err-take_line.ensures.1)
-    (λ os f text g. going-large job os f cs at _ c.in-Some-2.next c.in-Some.line (waits c.loop-at.waiting) (text ++ c.loop-at.out.items) c.in_err-take_line.field-0.0 l e a
+    (λ os f text g. going-large job os f cs at _ c.advance.new.cursor c.in-Some.line (waits c.loop-at.waiting) (text ++ c.loop-at.out.items) c.in_err-take_line.field-0.0 l e a
     (c.loop-at.invariant.goes os f text g) c.in_err-take_line.ensures.err)
 
 pub loop-at-smaller : goal.loop-at-smaller
@@ -118,24 +118,24 @@ loop-at-smaller c =
     let job = c.args.job.now in
     let cs = c.loop-at.cursors.items in
     let at = c.in-Some.at in
-    let one = c.index.result.now in
+    let one = c.index_mut.result.now in
     let b = least cs at c.in-Some.line (same-least cs c.deref.result.now c.next_line.result at c.in-Some.line c.deref.ensures.value c.next_line.ensures c.in-Some.is) in
     let l = least-within cs at c.in-Some.line b in
-    let a = advanced c.in_ok-next.field-0 one _ c.in-Some-2.next (IsAdvanced job) c.index.ensures c.in-Some-2.is c.in_ok-next.ensures.some in
-    set-smaller cs at _ c.in-Some-2.next l (next-smaller job _ c.in-Some-2.next c.in-Some.line (whole-head job cs at _ c.in-Some.line b l c.loop-at.invariant.heads) a)
+    let a = subst (λ (q : Cursor). IsAdvanced job q c.advance.new.cursor) c.index_mut.ensures.value (c.in_ok-advance.ensures.moves c.if-not-branch.false) in
+    set-smaller cs at _ c.advance.new.cursor l (next-smaller job _ c.advance.new.cursor c.in-Some.line (whole-head job cs at _ c.in-Some.line b l c.loop-at.invariant.heads) a)
 
 pub loop-at-preserved : goal.loop-at-preserved
 loop-at-preserved c =
     let job = c.args.job.now in
     let cs = c.loop-at.cursors.items in
     let at = c.in-Some.at in
-    let one = c.index.result.now in
+    let one = c.index_mut.result.now in
     let line = c.in-Some.line in
-    let next = c.in-Some-2.next in
+    let next = c.advance.new.cursor in
     let e = same-least cs c.deref.result.now c.next_line.result at line c.deref.ensures.value c.next_line.ensures c.in-Some.is in
     let b = least cs at line e in
     let l = least-within cs at line b in
-    let a = advanced c.in_ok-next.field-0 one _ next (IsAdvanced job) c.index.ensures c.in-Some-2.is c.in_ok-next.ensures.some in
+    let a = subst (λ (q : Cursor). IsAdvanced job q c.advance.new.cursor) c.index_mut.ensures.value (c.in_ok-advance.ensures.moves c.if-not-branch.false) in
     let w = whole-head job cs at _ line b l c.loop-at.invariant.heads in
     record {
       heads = all-set (λ (q : Cursor). IsHeadOf job q q.head) cs at next c.loop-at.invariant.heads a.opened.head;

@@ -1,0 +1,53 @@
+//! Numbers at the front of a text, as outputs write them: without leading zeros, below 2^64.
+//!
+//!     417,5    is 417, and ",5" is behind it      0417    begins with none
+//!
+//! Cost: one pass over the digits.
+ghost use Rattle.std.specs.Prelude.{◌≡◌, ◌<◌, ◌^◌, ℕ, IfSome, List, MatchOption, None, decimal, drop};
+ghost use Rattle.mr_shards.specs.Numbers.{BeginsWith, IsCutBehind, IsWithDigit, NoDigitFits};
+
+/// The number with the digit at that place; none if there is no digit, or 64 bits don't hold it.
+#[inline(always)]
+fn with_digit(value: u64, text: &[u8], at: usize) -> Option<u64>
+    ensures { MatchOption result (NoDigitFits value (drop at text.now)) (IsWithDigit value (drop at text.now)) }
+{
+    if at >= text.len() {
+        return None;
+    }
+    let digit = text[at];
+    if digit < b'0' || digit > b'9' || value > u64::MAX / 10 {
+        return None;
+    }
+    (value * 10).checked_add(u64::from(digit - b'0'))
+}
+
+/// Parses the number at the front, and returns what is behind it too.
+#[inline(always)]
+pub(crate) fn cut_number(text: &[u8]) -> Option<(u64, &[u8])>
+    ensures some { IfSome result (λ r. IsCutBehind text.entry.now r.0 r.1.now) }
+    ensures none { result ≡ None → (n : ℕ) (rest : List ℕ) → BeginsWith text.entry.now n rest → ⊥ }
+{
+    let mut value = 0;
+    let mut at = 0;
+    while let Some(next) = with_digit(value, text, at) {
+        value = next;
+        at += 1;
+    }
+    if at == 0 {
+        return None;
+    }
+    if at > 1 && text[0] == b'0' {
+        return None;
+    }
+    Some((value, &text[at..]))
+}
+
+/// Parses a text that is a number.
+pub fn number_of(digits: &[u8]) -> Option<u64>
+    ensures { MatchOption result ((n : ℕ) → n < 2 ^ 64 → digits.now ≡ decimal n → ⊥) (λ n. digits.now ≡ decimal n) }
+{
+    let Some((number, rest)) = cut_number(digits) else {
+        return None;
+    };
+    if rest.is_empty() { Some(number) } else { None }
+}
