@@ -16,7 +16,7 @@ use Rattle.mr_shards.specs.Merged.{Group, texts}
 use Rattle.mr_shards.specs.Portions.{merged_groups, shifted_group}
 use Rattle.mr_shards.specs.Refused.{text_at}
 use Rattle.mr_shards.specs.Rounds.{AreCounted, AreFurther, AreHeads, AreOpen, AreWindows, AreWithin, Goes, HasDry, HasDryHead, IsAfter, IsGoing, IsMerged, IsOneLine, IsWithin, Merges, OneGoes, Reading, Standing, are_last, cuts_at, extended, no_cut, no_held, outputs_of, pairs_held, taken_on}
-use Rattle.mr_shards.specs.Views.{waits}
+use Rattle.mr_shards.specs.Views.{IsWaitingFor, waits}
 use Rattle.mr_shards.proofs.LineLaws.{output-of_all}
 use Rattle.mr_shards.proofs.HeadLemmas.{cursor-at}
 use Rattle.mr_shards.proofs.LoopLemmas.{kept-end, none-left}
@@ -210,12 +210,12 @@ counted-ended job os f cs w text all count g i l =
 -- ---- a round that takes nothing
 
 -- what the last round did doesn't count
-like-after : (rs : List Reading) (text : List ℕ) (m n : Standing) → n.job ≡ m.job → n.held ≡ m.held → n.waiting ≡ m.waiting → IsAfter rs text m → IsAfter rs text n
-like-after rs text m n job held waiting a =
-    let x : Standing = record { job = m.job; held = m.held; waiting = m.waiting; text = n.text; cuts = n.cuts } in
-    let same : x ≡ n = λ i. record { job = sym job i; held = sym held i; waiting = sym waiting i; text = n.text; cuts = n.cuts } in
-    let here : IsAfter rs text x = record { count = a.count; read = a.read; few = a.few; told = a.told } in
-    subst (IsAfter rs text) same here
+like-after : (job : JobSpec) (rs : List Reading) (text : List ℕ) (m n : Standing) → n.held ≡ m.held → n.waiting ≡ m.waiting → IsAfter job rs text m → IsAfter job rs text n
+like-after job rs text m n held waiting a =
+    let x : Standing = record { held = m.held; waiting = m.waiting; text = n.text; cuts = n.cuts } in
+    let same : x ≡ n = λ i. record { held = sym held i; waiting = sym waiting i; text = n.text; cuts = n.cuts } in
+    let here : IsAfter job rs text x = record { count = a.count; read = a.read; kind = a.kind; few = a.few; told = a.told } in
+    subst (IsAfter job rs text) same here
 
 nothing-on : (rs : List Reading) (ws : List Window) → length ws ≡ length rs → taken_on (map no_cut ws) rs ≡ rs
 nothing-on [] [] e = refl
@@ -229,12 +229,12 @@ pub nothing-within : (ws : List Window) → AreWithin (map no_cut ws) ws
 nothing-within [] = tt
 nothing-within (w ∷ ws) = (omega arith, nothing-within ws)
 
-pub after-nothing : (rs : List Reading) (ws : List Window) (text : List ℕ) (m n : Standing) → AreWindows rs ws → n.job ≡ m.job → n.held ≡ m.held → n.waiting ≡ m.waiting → n.text ≡ []
-    → n.cuts ≡ map no_cut ws → IsAfter rs text m → IsAfter (taken_on n.cuts rs) (text ++ n.text) n
-after-nothing rs ws text m n v job held waiting none cuts a =
-    subst (λ (t : List ℕ). IsAfter (taken_on n.cuts rs) t n) (sym (ap (λ (t : List ℕ). text ++ t) none ∙ append-nil text))
-    (subst (λ (qs : List Reading). IsAfter qs text n) (sym (ap (λ (ns : List ℕ). taken_on ns rs) cuts ∙ nothing-on rs ws (sym (windows-count rs ws v))))
-    (like-after rs text m n job held waiting a))
+pub after-nothing : (job : JobSpec) (rs : List Reading) (ws : List Window) (text : List ℕ) (m n : Standing) → AreWindows rs ws → n.held ≡ m.held → n.waiting ≡ m.waiting → n.text ≡ []
+    → n.cuts ≡ map no_cut ws → IsAfter job rs text m → IsAfter job (taken_on n.cuts rs) (text ++ n.text) n
+after-nothing job rs ws text m n v held waiting none cuts a =
+    subst (λ (t : List ℕ). IsAfter job (taken_on n.cuts rs) t n) (sym (ap (λ (t : List ℕ). text ++ t) none ∙ append-nil text))
+    (subst (λ (qs : List Reading). IsAfter job qs text n) (sym (ap (λ (ns : List ℕ). taken_on ns rs) cuts ∙ nothing-on rs ws (sym (windows-count rs ws v))))
+    (like-after job rs text m n held waiting a))
 
 -- ---- all of a round
 
@@ -269,28 +269,27 @@ whole-end job ws cs ds os f w added next t text hs bytes further last (inl all) 
   subst (AreCounted job os) (sym held) (counted-ended job os f ds w (text ++ added) all count g),
 )
 
-pub merges : (job : JobSpec) (ws : List Window) (m n : Standing) (cs ds : List Cursor) (w : Option Group) (added : List ℕ) → m.job ≡ job → n.job ≡ job → AreOpen job m.held ws cs
-    → length m.held ≡ length ws → AreFurther cs ds → AreHeads job ds → Goes job cs ds (waits m.waiting) w added → n.held ≡ helds ds → n.cuts ≡ cuts_at ws ds → AreEnded ds ⊎ HasDryHead ds
-    → Finishes job ds w added (waits n.waiting) n.text → Merges ws m n
-merges job ws m n cs ds w added old new o count further heads goes held cuts ends finish =
+pub merges : (job : JobSpec) (ws : List Window) (m n : Standing) (cs ds : List Cursor) (w : Option Group) (added : List ℕ) → AreOpen job m.held ws cs → length m.held ≡ length ws → AreFurther cs ds
+    → AreHeads job ds → Goes job cs ds (waits m.waiting) w added → IsWaitingFor job n.waiting → n.held ≡ helds ds → n.cuts ≡ cuts_at ws ds → AreEnded ds ⊎ HasDryHead ds
+    → Finishes job ds w added (waits n.waiting) n.text → Merges job ws m n
+merges job ws m n cs ds w added o count further heads goes kind held cuts ends finish =
     let bytes : HaveBytes ws cs = have-bytes job m.held ws cs o in
     let many : length ds ≡ length ws = sym (further-count cs ds further) ∙ o.0 in
     let outputs : (rs : List Reading) → AreWindows rs ws → outputs_of (taken_on n.cuts rs) ≡ outputs_of rs =
     λ rs v. outputs-on rs n.cuts (ap length cuts ∙ cuts-count ws ds many ∙ sym (windows-count rs ws v)) in
-    let texts_on : (rs : List Reading) (text : List ℕ) (v : AreWindows rs ws) → IsAfter rs text m → AreTexts (taken_on n.cuts rs) ds (mores rs ws v) =
+    let texts_on : (rs : List Reading) (text : List ℕ) (v : AreWindows rs ws) → IsAfter job rs text m → AreTexts (taken_on n.cuts rs) ds (mores rs ws v) =
     λ rs text v a. subst (λ (ns : List ℕ). AreTexts (taken_on ns rs) ds (mores rs ws v)) (sym cuts)
-    (taken-texts rs ws cs ds (mores rs ws v) (going-opened job rs ws cs text m v old o count a).1 bytes further) in
-    let going : (rs : List Reading) (text : List ℕ) (v : AreWindows rs ws) → IsAfter rs text m → IsGoing job (outputs_of rs) (mores rs ws v) ds w (text ++ added) =
-    λ rs text v a. goes (outputs_of rs) (mores rs ws v) text (going-opened job rs ws cs text m v old o count a).0 in
-    let finished : (rs : List Reading) (text : List ℕ) (v : AreWindows rs ws) → IsAfter rs text m → IsGoing job (outputs_of rs) (mores rs ws v) ds (waits n.waiting) (text ++ n.text) =
+    (taken-texts rs ws cs ds (mores rs ws v) (going-opened job rs ws cs text m v o count a).1 bytes further) in
+    let going : (rs : List Reading) (text : List ℕ) (v : AreWindows rs ws) → IsAfter job rs text m → IsGoing job (outputs_of rs) (mores rs ws v) ds w (text ++ added) =
+    λ rs text v a. goes (outputs_of rs) (mores rs ws v) text (going-opened job rs ws cs text m v o count a).0 in
+    let finished : (rs : List Reading) (text : List ℕ) (v : AreWindows rs ws) → IsAfter job rs text m → IsGoing job (outputs_of rs) (mores rs ws v) ds (waits n.waiting) (text ++ n.text) =
     λ rs text v a. finish-going job (outputs_of rs) (mores rs ws v) ds w added (waits n.waiting) n.text text finish (going rs text v a) in
     record {
-      job = new ∙ sym old;
       within = subst (λ (ns : List ℕ). AreWithin ns ws) (sym cuts) (cuts-within ws ds many);
       after = λ rs text a v.
-          after-going job (taken_on n.cuts rs) ds (mores rs ws v) (text ++ n.text) n new (texts_on rs text v a) held
+          after-going job (taken_on n.cuts rs) ds (mores rs ws v) (text ++ n.text) n (texts_on rs text v a) held kind
           (subst (λ (os : List ShardText). IsGoing job os (mores rs ws v) ds (waits n.waiting) (text ++ n.text)) (sym (outputs rs v)) (finished rs text v a));
-      whole = λ rs text a v last. subst (λ (j : JobSpec). IsMerged j (outputs_of rs) (text ++ n.text) × AreCounted j (outputs_of rs) n.held) (sym old)
-          (whole-end job ws cs ds (outputs_of rs) (mores rs ws v) w added (waits n.waiting) n.text text n.held bytes further last ends held finish
-          (many ∙ sym (windows-count rs ws v) ∙ sym (length-map rs (λ (r : Reading). r.output))) (going rs text v a));
+      whole = λ rs text a v last.
+          whole-end job ws cs ds (outputs_of rs) (mores rs ws v) w added (waits n.waiting) n.text text n.held bytes further last ends held finish
+          (many ∙ sym (windows-count rs ws v) ∙ sym (length-map rs (λ (r : Reading). r.output))) (going rs text v a);
     }

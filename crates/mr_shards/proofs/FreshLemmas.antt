@@ -117,9 +117,8 @@ fresh-stand job s (f ∷ fs) (r ∷ rs) a all = (
   fresh-stand job (behind s (past_shard f)) fs rs a.2 all.1,
 )
 
-pub fresh-after : (fs : List ShardFiles) (rs : List Reading) (m : Standing) → AreFresh fs rs → m.held ≡ held_for fs → m.waiting ≡ nothing_waits → IsAfter rs [] m
-fresh-after fs rs m a held none =
-    let job : JobSpec = m.job in
+pub fresh-after : (job : JobSpec) (fs : List ShardFiles) (rs : List Reading) (m : Standing) → AreFresh fs rs → m.held ≡ held_for fs → m.waiting ≡ nothing_waits → IsAfter job rs [] m
+fresh-after job fs rs m a held none =
     let os : List ShardText = outputs_of rs in
     let same : shifted_parts no_shift (parts_in job os) ≡ rests job m.held rs = sym (fresh-rests job no_shift fs rs a) ∙ ap (λ (hs : List Held). rests job hs rs) (sym held) in
     let waits_none : None ≡ waits m.waiting = ap waits (sym none) in
@@ -140,6 +139,7 @@ fresh-after fs rs m a held none =
             pairs = subst (λ (o : Option ℕ). IsSum job o (groups_in job (behind_of q)) (groups_in job (text_at os i))) (sym x.pairs)
                 (subst (λ (t : List ℕ). 0 + all_pairs job (groups_in job t) ≡ all_pairs job (groups_in job (text_at os i))) (sym whole) (omega arith));
           }));
+      kind = subst (IsWaitingFor job) (sym none) (none-waits job);
       few = subst (λ (w : Option Group). IsWithin job os (rests job m.held rs) w) waits_none
           (subst (λ (gss : List (List Group)). IsWithin job os gss None) same (within-first job os (shifted_parts no_shift (parts_in job os)) refl));
       told = λ s.

@@ -20,7 +20,7 @@ use Rattle.mr_shards.specs.Outputs.{Stands}
 use Rattle.mr_shards.specs.Portions.{Shift, shifted_group}
 use Rattle.mr_shards.specs.Refused.{AreRead, Blames, Follows, IsReadAt, IsReadOf, IsReadTo, IsRest, IsRestOf, TakesNot, TellsFiles, last_key, text_at}
 use Rattle.mr_shards.specs.Rounds.{AreFurther, AreHeads, AreOpen, AreStanding, AreWindows, HasDry, HasDryHead, IsAfter, IsAt, IsFurther, IsGoing, IsReadUpTo, IsStanding, IsWindow, IsWithin, Reading, Standing, Told, behind, extended, no_held, output_with, outputs_of, rests}
-use Rattle.mr_shards.specs.Views.{IsFor, group_of, waits}
+use Rattle.mr_shards.specs.Views.{IsFor, IsWaitingFor, group_of, waits}
 use Rattle.mr_shards.proofs.HeadLemmas.{cursor-at, sum-here, sum-moved, passed-before, passed-count, passed-lines, sum-behind, told-pairs}
 use Rattle.mr_shards.proofs.LoopLemmas.{goes-front, kept-step}
 use Rattle.mr_shards.proofs.FrontLemmas.{all-at}
@@ -264,19 +264,12 @@ stands-rests job (r ∷ rs) (c ∷ cs) f t a stands all =
 
 -- ---- a merge between rounds
 
--- the merger, with that job
-abbrev pub with_job : JobSpec → Standing → Standing
-with_job job m = record { job = job; held = m.held; waiting = m.waiting; text = m.text; cuts = m.cuts }
-
-pub is-with_job : (job : JobSpec) (m : Standing) → m.job ≡ job → with_job job m ≡ m
-is-with_job job m is = λ i. record { job = sym is i; held = m.held; waiting = m.waiting; text = m.text; cuts = m.cuts }
-
-pub after-going : (job : JobSpec) (rs : List Reading) (cs : List Cursor) (f : ℕ → List ℕ) (text : List ℕ) (m : Standing) → m.job ≡ job → AreTexts rs cs f → m.held ≡ helds cs
-    → IsGoing job (outputs_of rs) f cs (waits m.waiting) text → IsAfter rs text m
-after-going job rs cs f text m is t held g =
+pub after-going : (job : JobSpec) (rs : List Reading) (cs : List Cursor) (f : ℕ → List ℕ) (text : List ℕ) (m : Standing) → AreTexts rs cs f → m.held ≡ helds cs → IsWaitingFor job m.waiting
+    → IsGoing job (outputs_of rs) f cs (waits m.waiting) text → IsAfter job rs text m
+after-going job rs cs f text m t held kind g =
     let lefts : AreLeft job cs f = λ i d l. (g.at i d l).0.left_is in
     let same : map (left job) (extended cs f) ≡ rests job m.held rs = lefts-rests job rs cs f t lefts ∙ ap (λ (hs : List Held). rests job hs rs) (sym held) in
-    let here : IsAfter rs text (with_job job m) = record {
+    record {
       count = ap length held ∙ length-map cs (λ (c : Cursor). c.held) ∙ sym (texts-count rs cs f t);
       read = λ i h r l.
           (let low : i < length cs = omega (arith, l, texts-count rs cs f t) in
@@ -296,11 +289,11 @@ after-going job rs cs f text m is t held g =
                 (sum-moved job (get_or cs i d).held.pairs (get_or cs i d).held.before (left job (on (get_or cs i d) (f i))) (groups_in job ((get_or cs i d).text.now ++ f i)) (groups_in job (text_at (outputs_of rs) i))
                 x.0.left_is x.0.pairs);
           }));
+      kind = kind;
       few = subst (λ (gss : List (List Group)). IsWithin job (outputs_of rs) gss (waits m.waiting)) same g.kept.few;
       told = λ s. subst (λ (gss : List (List Group)). Told job (outputs_of rs) gss (waits m.waiting) text) same
           (g.kept.told (stands-rests job rs cs f t lefts (λ i d l. (g.at i d l).0.stands) (subst (λ (hs : List Held). AreStanding job hs rs) held s)));
-    } in
-    subst (IsAfter rs text) (is-with_job job m is) here
+    }
 
 -- ---- a round begins
 
@@ -368,10 +361,9 @@ rests-stand job (r ∷ rs) (c ∷ cs) f t a all =
       rests-stand job rs cs (λ i. f (suc i)) t.2 (λ i d l. a (suc i) d (omega (arith, l))) all.1,
     )
 
-pub going-opened : (job : JobSpec) (rs : List Reading) (ws : List Window) (cs : List Cursor) (text : List ℕ) (m : Standing) (v : AreWindows rs ws) → m.job ≡ job → AreOpen job m.held ws cs
-    → length m.held ≡ length ws → IsAfter rs text m → IsGoing job (outputs_of rs) (mores rs ws v) cs (waits m.waiting) text × AreTexts rs cs (mores rs ws v)
-going-opened job rs ws cs text m v same_job all count after =
-    let a : IsAfter rs text (with_job job m) = subst (IsAfter rs text) (sym (is-with_job job m same_job)) after in
+pub going-opened : (job : JobSpec) (rs : List Reading) (ws : List Window) (cs : List Cursor) (text : List ℕ) (m : Standing) (v : AreWindows rs ws) → AreOpen job m.held ws cs → length m.held ≡ length ws
+    → IsAfter job rs text m → IsGoing job (outputs_of rs) (mores rs ws v) cs (waits m.waiting) text × AreTexts rs cs (mores rs ws v)
+going-opened job rs ws cs text m v all count a =
     let f : ℕ → List ℕ = mores rs ws v in
     let os : List ShardText = outputs_of rs in
     let many : length rs ≡ length ws = windows-count rs ws v in

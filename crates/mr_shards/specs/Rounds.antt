@@ -19,12 +19,11 @@ use Rattle.mr_shards.specs.Merged.{Group, texts}
 use Rattle.mr_shards.specs.Outputs.{IsOutputOfAll, Stands, parts_in}
 use Rattle.mr_shards.specs.Portions.{Shift, behind as shift_behind, merged_groups, merged_portions, no_shift, past_shard, shifted_group}
 use Rattle.mr_shards.specs.Refused.{AreRead, Blames, Follows, IsReadTo, IsRest, IsRestOf, IsShardText, PassesNot, TellsFiles, count_at, shift_before, text_at, total_of, values_among}
-use Rattle.mr_shards.specs.Views.{Waits, waits}
+use Rattle.mr_shards.specs.Views.{IsWaitingFor, Waits, waits}
 
--- what a merger keeps: its job, of each shard what was taken, and what waits; and of the last round the text, and how
--- many bytes it took of each window
+-- what a merger keeps: of each shard what was taken, and what waits; and of the last round the text, and how many
+-- bytes it took of each window
 pub record Standing : Type 0 where
-  pub job : JobSpec
   pub held : List Held
   pub waiting : Waits
   pub text : List ℕ
@@ -139,11 +138,12 @@ abbrev pub AreReadUpTo : JobSpec → List Held → List Reading → Type 0
 AreReadUpTo job hs rs = (i : ℕ) (h : Held) (r : Reading) → i < length rs → IsReadUpTo job (outputs_of rs) i (slice_index_or hs i h) (slice_index_or rs i r)
 
 -- so much of each output was taken, and this text was written
-pub record IsAfter (rs : List Reading) (text : List ℕ) (m : Standing) : Type 0 where
+pub record IsAfter (job : JobSpec) (rs : List Reading) (text : List ℕ) (m : Standing) : Type 0 where
   pub count : length m.held ≡ length rs
-  pub read : AreReadUpTo m.job m.held rs
-  pub few : IsWithin m.job (outputs_of rs) (rests m.job m.held rs) (waits m.waiting)
-  pub told : AreStanding m.job m.held rs → Told m.job (outputs_of rs) (rests m.job m.held rs) (waits m.waiting) text
+  pub read : AreReadUpTo job m.held rs
+  pub kind : IsWaitingFor job m.waiting
+  pub few : IsWithin job (outputs_of rs) (rests job m.held rs) (waits m.waiting)
+  pub told : AreStanding job m.held rs → Told job (outputs_of rs) (rests job m.held rs) (waits m.waiting) text
 
 -- ---- what a round does
 
@@ -166,12 +166,11 @@ AreCounted job os hs = (i : ℕ) → i < length os → IsSum job (pairs_held hs 
 
 -- whatever the outputs are, of which these are windows: behind a round the merger is where it took so much more and wrote what it
 -- merged; where all windows are the last, that is the merge of the whole outputs
-pub record Merges (ws : List Window) (old new : Standing) : Type 0 where
-  pub job : new.job ≡ old.job
+pub record Merges (job : JobSpec) (ws : List Window) (old new : Standing) : Type 0 where
   pub within : AreWithin new.cuts ws
-  pub after : (rs : List Reading) (text : List ℕ) → IsAfter rs text old → AreWindows rs ws → IsAfter (taken_on new.cuts rs) (text ++ new.text) new
-  pub whole : (rs : List Reading) (text : List ℕ) → IsAfter rs text old → AreWindows rs ws → are_last ws ≡ true
-      → IsMerged old.job (outputs_of rs) (text ++ new.text) × AreCounted old.job (outputs_of rs) new.held
+  pub after : (rs : List Reading) (text : List ℕ) → IsAfter job rs text old → AreWindows rs ws → IsAfter job (taken_on new.cuts rs) (text ++ new.text) new
+  pub whole : (rs : List Reading) (text : List ℕ) → IsAfter job rs text old → AreWindows rs ws → are_last ws ≡ true
+      → IsMerged job (outputs_of rs) (text ++ new.text) × AreCounted job (outputs_of rs) new.held
 
 -- the bytes are one line and no other whole one
 pub record IsOneLine (bytes : List ℕ) : Type 0 where

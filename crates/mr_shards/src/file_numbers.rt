@@ -13,7 +13,7 @@ ghost use Rattle.mr_shards.specs.Portions.{shifted_value};
 ghost use Rattle.mr_shards.specs.Views.{IsListTo};
 
 use crate::numbers::cut_number;
-use crate::shift::Shift;
+use crate::shift::{Shift, shifted_file};
 use mr_bytes::Value;
 use std::alloc::AllocError;
 
@@ -57,24 +57,23 @@ pub(crate) fn add_places(
         let Some((number, rest)) = next_number(text, before) else {
             return Ok(());
         };
-        places.push(place_in(number, moved))?;
+        let Some(place) = place_in(number, moved) else {
+            return Ok(());
+        };
+        places.push(place)?;
         before = Some(number);
         left = rest;
     }
     Ok(())
 }
 
-/// A place in a file, moved.
-fn place_in(number: u32, moved: Shift) -> Value
-    requires { moved.files + number < 2 ^ 32 }
-    ensures { result ≡ shifted_value moved (At number 0) }
+/// A place in a file, moved; none if the file's number doesn't fit in 32 bits.
+fn place_in(number: u32, moved: Shift) -> Option<Value>
+    ensures { MatchOption result (2 ^ 32 ≤ moved.files + number) (λ v. v ≡ shifted_value moved (At number 0)) }
 {
-    let file = moved.files + u64::from(number);
+    let file = shifted_file(&moved, number as u64)?;
     let offset = if number == 0 { moved.bytes } else { 0 };
-    Value::At {
-        file: file as u32,
-        offset,
-    }
+    Some(Value::At { file, offset })
 }
 
 /// The first number of a list, if it is greater than the last one and fits in 32 bits, and the list
@@ -90,13 +89,12 @@ fn next_number(list: &[u8], last: Option<u32>) -> Option<(u32, Option<&[u8]>)>
     let Some((number, rest)) = cut_number(list) else {
         return None;
     };
+    let Ok(file) = u32::try_from(number) else {
+        return None;
+    };
     if number < least_past(last) {
         return None;
     }
-    if number >= 1 << 32 {
-        return None;
-    }
-    let file = number as u32;
     if rest.is_empty() {
         return Some((file, None));
     }

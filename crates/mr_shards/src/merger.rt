@@ -14,6 +14,7 @@
 ghost use Rattle.std.specs.Prelude.{◌≡◌, ℕ, ◌≤◌, ◌++◌, ◌∷◌, [], ◌⊎◌, IfErr, IfOk, OnErr, OnOk, length};
 ghost use Rattle.std.specs.Prelude.{map, List, Some, true, false, ◌<◌};
 ghost use Rattle.std.specs.Prelude.{None, IfSome};
+ghost use Rattle.mr_jobs.specs.JobSpec.{JobSpec};
 ghost use Rattle.mr_shards.specs.Rounds.{AreFurther, AreHeads, AreOpen, AreReadUpTo, AreWindows};
 ghost use Rattle.mr_shards.specs.Rounds.{BlamesGoing, Goes, HasDry, HasDryHead, IsTooFar, Reading};
 ghost use Rattle.mr_shards.specs.Rounds.{Standing, cuts_at, held_for, no_cut, outputs_of};
@@ -43,42 +44,38 @@ pub struct Window<'a> {
 
 /// The state of a merge between rounds, with what the last round did.
 #[derive(Drop)]
-pub struct Merger<'a> {
-    job: &'a Job,
+pub struct Merger {
     held: Vec<Held>,
     waiting: Waiting,
     text: Vec<u8>,
     cuts: Vec<usize>,
 }
 
-impl<'a> Model for Merger<'a> {
+impl Model for Merger {
     ghost Value = { Standing };
 
     ghost view = { λ m. record {
-      job = m.job.now;
       held = m.held.items;
       waiting = m.waiting;
       text = m.text.items;
       cuts = m.cuts.items;
     } };
-
-    ghost invariant = { λ m. IsWaitingFor m.job.now m.waiting };
 }
 
-impl<'a> Merger<'a> {
+impl Merger {
     ghost use Rattle.mr_shards.specs.Rounds.{AreFresh, AreWindows, GoesOn, IsAfter, Merges, Reading};
     ghost use Rattle.mr_shards.specs.Rounds.{outputs_of, pairs_held};
 
-    /// A merger for the job of shards with these files. Nothing is taken yet.
-    pub fn new(alloc: Global, job: &'a Job, files: &[ShardFiles]) -> Result<Merger<'a>, MergeFault>
-        ensures job { IfOk result (λ m. m.job ≡ job.entry.now) }
+    /// A merger of shards with these files. Nothing is taken yet.
+    pub fn new(alloc: Global, files: &[ShardFiles]) -> Result<Merger, MergeFault>
         ensures shards { IfOk result (λ m. length m.held ≡ length files.now) }
-        ensures fresh { IfOk result (λ m. (rs : List Reading) → AreFresh files.now rs → IsAfter rs [] m) }
-        ensures err { IfErr result (λ e. (rs : List Reading) → AreFresh files.now rs
-            → Blames job.entry.now (outputs_of rs) e) }
+        ensures kind { IfOk result (λ m. (job : JobSpec) → IsWaitingFor job m.waiting) }
+        ensures fresh { IfOk result (λ m. (job : JobSpec) (rs : List Reading)
+            → AreFresh files.now rs → IsAfter job rs [] m) }
+        ensures err { IfErr result (λ e. (job : JobSpec) (rs : List Reading)
+            → AreFresh files.now rs → Blames job (outputs_of rs) e) }
     {
         Ok(Merger {
-            job,
             held: held_of(alloc, files)?,
             waiting: Waiting::new(alloc),
             text: Vec::new(alloc),
@@ -114,21 +111,23 @@ impl<'a> Merger<'a> {
     /// Merges what it can of the windows. Where all are last, it takes all. A window that isn't
     /// keeps at least its last whole line, as nobody knows what comes behind; where one has no whole
     /// line, nothing is taken. Lines that are not the job's or are out of order are refused, by
-    /// their number in the whole output.
+    /// their number in the whole output. The job is that of all rounds.
     pub fn merge_round(
         self,
         alloc: Global,
+        job: &Job,
         windows: &[Window<'_>],
-    ) -> Result<Merger<'a>, MergeFault>
+    ) -> Result<Merger, MergeFault>
         requires count { length windows.now ≡ length self.held }
-        ensures shards { IfOk result (λ m. length m.held ≡ length self.entry.held) }
+        requires kind { IsWaitingFor job.now self.waiting }
+        ensures shards { IfOk result (λ m. length m.held ≡ length self.held) }
+        ensures kind { IfOk result (λ m. IsWaitingFor job.now m.waiting) }
         ensures goes { IfOk result (λ m. GoesOn windows.now m.cuts) }
-        ensures ok { IfOk result (Merges windows.now self.entry) }
-        ensures err { IfErr result (λ e. (rs : List Reading) (text : List ℕ) → IsAfter rs text self.entry
-            → AreWindows rs windows.now → Blames self.entry.job (outputs_of rs) e) }
+        ensures ok { IfOk result (Merges job.now windows.now self) }
+        ensures err { IfErr result (λ e. (rs : List Reading) (text : List ℕ) → IsAfter job.now rs text self
+            → AreWindows rs windows.now → Blames job.now (outputs_of rs) e) }
     {
         let Merger {
-            job,
             held,
             mut waiting,
             mut text,
@@ -138,7 +137,6 @@ impl<'a> Merger<'a> {
         let Some(mut cursors) = open_all(alloc, job, held.as_slice(), windows)? else {
             let cuts = no_cuts(alloc, windows)?;
             return Ok(Merger {
-                job,
                 held,
                 waiting,
                 text,
@@ -150,7 +148,6 @@ impl<'a> Merger<'a> {
             waiting.put(job, &mut text)?;
         }
         Ok(Merger {
-            job,
             held: all_held(alloc, cursors.as_slice())?,
             waiting,
             text,
@@ -411,7 +408,7 @@ pub fn merge_parts(
 {
     let files = files_in(alloc, outputs)?;
     let windows = whole_windows(alloc, outputs)?;
-    let merger = Merger::new(alloc, job, files.as_slice())?;
-    let merged = merger.merge_round(alloc, windows.as_slice())?;
+    let merger = Merger::new(alloc, files.as_slice())?;
+    let merged = merger.merge_round(alloc, job, windows.as_slice())?;
     Ok(Vec::from_slice(alloc, merged.text())?)
 }

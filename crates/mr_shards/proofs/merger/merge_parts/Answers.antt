@@ -1,11 +1,10 @@
-use Rattle.std.proofs.Common.{◌≡◌, ◌∙◌, [], ap, sym, subst, List, ℕ}
+use Rattle.std.proofs.Common.{◌∙◌, [], ap, sym, subst, List}
 use Rattle.std.proofs.lemmas.Result.{err_from_is_err_and}
 use Rattle.mr_shards.specs.declared.merger.ShardText.{ShardText}
 use Rattle.mr_shards.specs.declared.shift.ShardFiles.{ShardFiles}
-use Rattle.mr_jobs.specs.JobSpec.{JobSpec}
 use Rattle.mr_shards.specs.Outputs.{IsOutputOfAll}
 use Rattle.mr_shards.specs.Refused.{Blames}
-use Rattle.mr_shards.specs.Rounds.{AreFresh, AreWindows, IsMerged, are_last, outputs_of}
+use Rattle.mr_shards.specs.Rounds.{AreFresh, AreWindows, IsMerged, are_last}
 use Rattle.mr_shards.proofs.FreshLemmas.{fresh-wholes, last-wholes, outputs-wholes, windows-wholes, wholes}
 use Rattle.mr_shards.proofs.RefusedLemmas.{blamed}
 use Rattle.mr_shards.proofs.merger.merge_parts.Goals as goal
@@ -16,7 +15,7 @@ returns-in_err-merger-clause-err c =
     let fresh = subst (λ (fs : List ShardFiles). AreFresh fs (wholes os)) (sym (c.as_slice.ensures.value ∙ c.in_ok-files.ensures)) (fresh-wholes os) in
     blamed c.args.job.now os c.from_residual-in_err-merger.result c.in_err-merger.field-0.0
     (err_from_is_err_and c.from_residual-in_err-merger.result c.from_residual-in_err-merger.ensures.1)
-    (subst (λ (qs : List ShardText). Blames c.args.job.now qs c.in_err-merger.field-0.0) (outputs-wholes os) (c.in_err-merger.ensures.err (wholes os) fresh))
+    (subst (λ (qs : List ShardText). Blames c.args.job.now qs c.in_err-merger.field-0.0) (outputs-wholes os) (c.in_err-merger.ensures.err c.args.job.now (wholes os) fresh))
 
 pub returns-in_err-merged-clause-err : goal.returns-in_err-merged-clause-err
 returns-in_err-merged-clause-err c =
@@ -26,11 +25,8 @@ returns-in_err-merged-clause-err c =
     let v = subst (AreWindows (wholes os)) (sym (c.as_slice-2.ensures.value ∙ c.in_ok-windows.ensures)) (windows-wholes os) in
     blamed job os c.from_residual-in_err-merged.result c.in_err-merged.field-0.0
     (err_from_is_err_and c.from_residual-in_err-merged.result c.from_residual-in_err-merged.ensures.1)
-    (subst (λ (j : JobSpec). Blames j os c.in_err-merged.field-0.0) c.in_ok-merger.ensures.job (subst (λ (qs : List ShardText). Blames c.in_ok-merger.merger.job qs c.in_err-merged.field-0.0) (outputs-wholes os)
-    (c.in_err-merged.ensures.err (wholes os) [] (c.in_ok-merger.ensures.fresh (wholes os) fresh) v)))
-
-merged-all : (job j : JobSpec) (os : List ShardText) (text : List ℕ) → j ≡ job → IsMerged j (outputs_of (wholes os)) text → IsMerged job os text
-merged-all job j os text same m = subst (λ (k : JobSpec). IsMerged k os text) same (subst (λ (qs : List ShardText). IsMerged j qs text) (outputs-wholes os) m)
+    (subst (λ (qs : List ShardText). Blames job qs c.in_err-merged.field-0.0) (outputs-wholes os)
+    (c.in_err-merged.ensures.err (wholes os) [] (c.in_ok-merger.ensures.fresh job (wholes os) fresh) v))
 
 pub returns-clause-stands : goal.returns-clause-stands
 returns-clause-stands c =
@@ -39,8 +35,8 @@ returns-clause-stands c =
     let fresh = subst (λ (fs : List ShardFiles). AreFresh fs (wholes os)) (sym (c.as_slice.ensures.value ∙ c.in_ok-files.ensures)) (fresh-wholes os) in
     let v = subst (AreWindows (wholes os)) (sym (c.as_slice-2.ensures.value ∙ c.in_ok-windows.ensures)) (windows-wholes os) in
     let last = ap are_last (c.as_slice-2.ensures.value ∙ c.in_ok-windows.ensures) ∙ last-wholes os in
-    let m = c.in_ok-merged.ensures.ok.whole (wholes os) [] (c.in_ok-merger.ensures.fresh (wholes os) fresh) v last in
-    (merged-all job c.in_ok-merger.merger.job os c.in_ok-merged.merged.text c.in_ok-merger.ensures.job m.0).stands
+    let m = c.in_ok-merged.ensures.ok.whole (wholes os) [] (c.in_ok-merger.ensures.fresh job (wholes os) fresh) v last in
+    (subst (λ (qs : List ShardText). IsMerged job qs c.in_ok-merged.merged.text) (outputs-wholes os) m.0).stands
 
 pub returns-clause-merged : goal.returns-clause-merged
 returns-clause-merged c =
@@ -49,8 +45,8 @@ returns-clause-merged c =
     let fresh = subst (λ (fs : List ShardFiles). AreFresh fs (wholes os)) (sym (c.as_slice.ensures.value ∙ c.in_ok-files.ensures)) (fresh-wholes os) in
     let v = subst (AreWindows (wholes os)) (sym (c.as_slice-2.ensures.value ∙ c.in_ok-windows.ensures)) (windows-wholes os) in
     let last = ap are_last (c.as_slice-2.ensures.value ∙ c.in_ok-windows.ensures) ∙ last-wholes os in
-    let m = c.in_ok-merged.ensures.ok.whole (wholes os) [] (c.in_ok-merger.ensures.fresh (wholes os) fresh) v last in
-    c.in_ok-from_slice.ensures.items ∙ c.text.ensures ∙ (merged-all job c.in_ok-merger.merger.job os c.in_ok-merged.merged.text c.in_ok-merger.ensures.job m.0).text_is
+    let m = c.in_ok-merged.ensures.ok.whole (wholes os) [] (c.in_ok-merger.ensures.fresh job (wholes os) fresh) v last in
+    c.in_ok-from_slice.ensures.items ∙ c.text.ensures ∙ (subst (λ (qs : List ShardText). IsMerged job qs c.in_ok-merged.merged.text) (outputs-wholes os) m.0).text_is
 
 pub returns-clause-whole : goal.returns-clause-whole
 returns-clause-whole c =
@@ -59,5 +55,5 @@ returns-clause-whole c =
     let fresh = subst (λ (fs : List ShardFiles). AreFresh fs (wholes os)) (sym (c.as_slice.ensures.value ∙ c.in_ok-files.ensures)) (fresh-wholes os) in
     let v = subst (AreWindows (wholes os)) (sym (c.as_slice-2.ensures.value ∙ c.in_ok-windows.ensures)) (windows-wholes os) in
     let last = ap are_last (c.as_slice-2.ensures.value ∙ c.in_ok-windows.ensures) ∙ last-wholes os in
-    let m = c.in_ok-merged.ensures.ok.whole (wholes os) [] (c.in_ok-merger.ensures.fresh (wholes os) fresh) v last in
-    subst (IsOutputOfAll job os) (sym (c.in_ok-from_slice.ensures.items ∙ c.text.ensures)) (merged-all job c.in_ok-merger.merger.job os c.in_ok-merged.merged.text c.in_ok-merger.ensures.job m.0).whole
+    let m = c.in_ok-merged.ensures.ok.whole (wholes os) [] (c.in_ok-merger.ensures.fresh job (wholes os) fresh) v last in
+    subst (IsOutputOfAll job os) (sym (c.in_ok-from_slice.ensures.items ∙ c.text.ensures)) (subst (λ (qs : List ShardText). IsMerged job qs c.in_ok-merged.merged.text) (outputs-wholes os) m.0).whole

@@ -12,7 +12,7 @@ use Rattle.mr_shards.specs.declared.merger.Window.{Window}
 use Rattle.mr_shards.specs.Cursors.{are_ended}
 use Rattle.mr_shards.specs.Refused.{Blames}
 use Rattle.mr_shards.specs.Rounds.{AreOpen, AreReadUpTo, AreWindows, AreWithin, Goes, IsAfter, IsGoing, OneGoes, Reading, Standing, cuts_at, outputs_of}
-use Rattle.mr_shards.specs.Views.{Waits, waits}
+use Rattle.mr_shards.specs.Views.{IsWaitingFor, Waits, waits}
 use Rattle.mr_shards.proofs.EndLemmas.{after-nothing, dry-goes, dry-window, ended-last, further-count, have-bytes, merges, nothing-within, open-heads}
 use Rattle.mr_shards.proofs.RefusedLemmas.{handed}
 use Rattle.mr_shards.proofs.RoundLemmas.{going-opened, helds, mores}
@@ -27,70 +27,65 @@ opened job seen hs ws o cs same is all =
 
 pub returns-in_err-cursors-clause-err : goal.returns-in_err-cursors-clause-err
 returns-in_err-cursors-clause-err c =
-    let job = c.self.inside.job.now in
+    let job = c.args.job.now in
     let m = c.args.self in
-    let same = ap (λ (s : Standing). s.job) c.self.view_is in
     let held = c.as_slice.ensures.value ∙ ap (λ (s : Standing). s.held) c.self.view_is in
-    handed (λ (e : MergeFault). (rs : List Reading) (text : List ℕ) → IsAfter rs text m → AreWindows rs c.args.windows.now → Blames m.job (outputs_of rs) e)
+    handed (λ (e : MergeFault). (rs : List Reading) (text : List ℕ) → IsAfter job rs text m → AreWindows rs c.args.windows.now → Blames job (outputs_of rs) e)
     c.from_residual.result c.in_err-cursors.field-0.0
     (err_from_is_err_and c.from_residual.result c.from_residual.ensures.1)
-    (λ rs text a v. subst (λ (j : JobSpec). Blames j (outputs_of rs) c.in_err-cursors.field-0.0) same
-    (c.in_err-cursors.ensures.err rs (subst (λ (hs : List Held). AreReadUpTo job hs rs) (sym held) (subst (λ (j : JobSpec). AreReadUpTo j m.held rs) (sym same) a.read)) v))
+    (λ rs text a v. c.in_err-cursors.ensures.err rs (subst (λ (hs : List Held). AreReadUpTo job hs rs) (sym held) a.read) v)
 
 pub returns-in_default-clause-ok : goal.returns-in_default-clause-ok
 returns-in_default-clause-ok c =
-    let job = c.self.inside.job.now in
+    let job = c.args.job.now in
     let ws = c.args.windows.now in
     let m = c.args.self in
     let dry = c.in_ok-cursors.ensures.none c.in_default.is in
     record {
-      job = ap (λ (s : Standing). s.job) c.self.view_is;
       within = subst (λ (ns : List ℕ). AreWithin ns ws) (sym c.in_ok-cuts.ensures) (nothing-within ws);
-      after = λ rs text a v. after-nothing rs ws text m _ v (ap (λ (s : Standing). s.job) c.self.view_is) (ap (λ (s : Standing). s.held) c.self.view_is) (ap (λ (s : Standing). s.waiting) c.self.view_is) c.clear.ensures.items c.in_ok-cuts.ensures a;
+      after = λ rs text a v. after-nothing job rs ws text m _ v (ap (λ (s : Standing). s.held) c.self.view_is) (ap (λ (s : Standing). s.waiting) c.self.view_is) c.clear.ensures.items c.in_ok-cuts.ensures a;
       whole = λ rs text a v last. absurd (cc (sym last ∙ dry-window ws dry));
     }
 
 pub merge_lines-requires-clause-heads : goal.merge_lines-requires-clause-heads
 merge_lines-requires-clause-heads c =
-    open-heads c.self.inside.job.now c.as_slice.result.now c.args.windows.now c.in-Some.cursors.items
-    (opened c.self.inside.job.now c.as_slice.result.now c.as_slice.result.now c.args.windows.now c.in_ok-cursors.field-0 c.in-Some.cursors refl c.in-Some.is c.in_ok-cursors.ensures.some)
+    open-heads c.args.job.now c.as_slice.result.now c.args.windows.now c.in-Some.cursors.items
+    (opened c.args.job.now c.as_slice.result.now c.as_slice.result.now c.args.windows.now c.in_ok-cursors.field-0 c.in-Some.cursors refl c.in-Some.is c.in_ok-cursors.ensures.some)
 
 pub merge_lines-requires-clause-waits : goal.merge_lines-requires-clause-waits
-merge_lines-requires-clause-waits c = c.self.invariant
+merge_lines-requires-clause-waits c = subst (IsWaitingFor c.args.job.now) (sym (ap (λ (s : Standing). s.waiting) c.self.view_is)) c.requires.kind
 
 pub returns-in_err-merge_lines-clause-err : goal.returns-in_err-merge_lines-clause-err
 returns-in_err-merge_lines-clause-err c =
-    let job = c.self.inside.job.now in
+    let job = c.args.job.now in
     let ws = c.args.windows.now in
     let m = c.args.self in
-    let same = ap (λ (s : Standing). s.job) c.self.view_is in
     let held = c.as_slice.ensures.value ∙ ap (λ (s : Standing). s.held) c.self.view_is in
     let cs = c.in-Some.cursors.items in
     let o = opened job c.as_slice.result.now m.held ws c.in_ok-cursors.field-0 c.in-Some.cursors held c.in-Some.is c.in_ok-cursors.ensures.some in
-    handed (λ (e : MergeFault). (rs : List Reading) (text : List ℕ) → IsAfter rs text m → AreWindows rs ws → Blames m.job (outputs_of rs) e)
+    handed (λ (e : MergeFault). (rs : List Reading) (text : List ℕ) → IsAfter job rs text m → AreWindows rs ws → Blames job (outputs_of rs) e)
     c.from_residual-in_err-merge_lines.result c.in_err-merge_lines.field-0.0
     (err_from_is_err_and c.from_residual-in_err-merge_lines.result c.from_residual-in_err-merge_lines.ensures.1)
     (λ rs text a v.
-    (let g = (going-opened job rs ws cs text m v (sym same) o (sym c.requires.count) a).0 in
-    subst (λ (j : JobSpec). Blames j (outputs_of rs) c.in_err-merge_lines.field-0.0) same
-    (c.in_err-merge_lines.ensures.err (outputs_of rs) (mores rs ws v) text
-    (subst (λ (w : Waits). IsGoing job (outputs_of rs) (mores rs ws v) cs (waits w) text) (sym (ap (λ (s : Standing). s.waiting) c.self.view_is)) g))))
+    (let g = (going-opened job rs ws cs text m v o (sym c.requires.count) a).0 in
+    c.in_err-merge_lines.ensures.err (outputs_of rs) (mores rs ws v) text
+    (subst (λ (w : Waits). IsGoing job (outputs_of rs) (mores rs ws v) cs (waits w) text) (sym (ap (λ (s : Standing). s.waiting) c.self.view_is)) g)))
 
 -- how many cursors there are
 pub cuts_of-requires : goal.cuts_of-requires
 cuts_of-requires c =
-    let o = opened c.self.inside.job.now c.as_slice.result.now c.as_slice.result.now c.args.windows.now c.in_ok-cursors.field-0 c.in-Some.cursors refl c.in-Some.is c.in_ok-cursors.ensures.some in
+    let o = opened c.args.job.now c.as_slice.result.now c.as_slice.result.now c.args.windows.now c.in_ok-cursors.field-0 c.in-Some.cursors refl c.in-Some.is c.in_ok-cursors.ensures.some in
     ap length c.as_slice-4.ensures.value ∙ sym (further-count c.in-Some.cursors.items c.merge_lines.new.cursors.items c.in_ok-merge_lines.ensures.further) ∙ o.0
 
 pub returns-clause-shards : goal.returns-clause-shards
 returns-clause-shards c =
-    let o = opened c.self.inside.job.now c.as_slice.result.now c.as_slice.result.now c.args.windows.now c.in_ok-cursors.field-0 c.in-Some.cursors refl c.in-Some.is c.in_ok-cursors.ensures.some in
+    let o = opened c.args.job.now c.as_slice.result.now c.as_slice.result.now c.args.windows.now c.in_ok-cursors.field-0 c.in-Some.cursors refl c.in-Some.is c.in_ok-cursors.ensures.some in
     ap length c.in_ok-all_held.ensures ∙ length-map c.as_slice-3.result.now (λ (q : Cursor). q.held) ∙ ap length c.as_slice-3.ensures.value
     ∙ sym (further-count c.in-Some.cursors.items c.merge_lines.new.cursors.items c.in_ok-merge_lines.ensures.further) ∙ o.0 ∙ c.requires.count
 
 pub returns-clause-goes : goal.returns-clause-goes
 returns-clause-goes c = λ more some.
-    let job = c.self.inside.job.now in
+    let job = c.args.job.now in
     let ws = c.args.windows.now in
     let cs = c.in-Some.cursors.items in
     let ds = c.merge_lines.new.cursors.items in
@@ -103,17 +98,29 @@ returns-clause-goes c = λ more some.
       | inr dry ↦ subst (OneGoes ws) (sym cuts) (dry-goes ws cs ds bytes further dry)
     ]
 
+pub returns-clause-kind : goal.returns-clause-kind
+returns-clause-kind c =
+    let job = c.args.job.now in
+    subst (IsWaitingFor job) (sym c.waiting-3.view_is) (elim c.if-are_ended.branch [
+      | then-are_ended+in_ok-put w ↦ subst (IsWaitingFor job) (sym w.waiting-is) w.in_ok-put.ensures.waits.1
+      | else-are_ended w ↦ subst (IsWaitingFor job) (sym w.waiting-is) c.in_ok-merge_lines.ensures.waits
+    ])
+
 pub returns-clause-ok : goal.returns-clause-ok
 returns-clause-ok c =
-    let job = c.self.inside.job.now in
+    let job = c.args.job.now in
     let ws = c.args.windows.now in
     let m = c.args.self in
     let held = c.as_slice.ensures.value ∙ ap (λ (s : Standing). s.held) c.self.view_is in
     let cs = c.in-Some.cursors.items in
     let ds = c.merge_lines.new.cursors.items in
     let o = opened job c.as_slice.result.now m.held ws c.in_ok-cursors.field-0 c.in-Some.cursors held c.in-Some.is c.in_ok-cursors.ensures.some in
-    merges job ws m _ cs ds (waits c.merge_lines.new.waiting) c.merge_lines.new.out.items (sym (ap (λ (s : Standing). s.job) c.self.view_is)) refl o (sym c.requires.count) c.in_ok-merge_lines.ensures.further c.in_ok-merge_lines.ensures.heads
+    merges job ws m _ cs ds (waits c.merge_lines.new.waiting) c.merge_lines.new.out.items o (sym c.requires.count) c.in_ok-merge_lines.ensures.further c.in_ok-merge_lines.ensures.heads
     (subst (λ (w : Waits). Goes job cs ds (waits w) (waits c.merge_lines.new.waiting) c.merge_lines.new.out.items) (ap (λ (s : Standing). s.waiting) c.self.view_is) c.in_ok-merge_lines.ensures.goes)
+    (subst (IsWaitingFor job) (sym c.waiting-3.view_is) (elim c.if-are_ended.branch [
+      | then-are_ended+in_ok-put w ↦ subst (IsWaitingFor job) (sym w.waiting-is) w.in_ok-put.ensures.waits.1
+      | else-are_ended w ↦ subst (IsWaitingFor job) (sym w.waiting-is) c.in_ok-merge_lines.ensures.waits
+    ]))
     (c.in_ok-all_held.ensures ∙ ap helds c.as_slice-3.ensures.value) (c.in_ok-cuts_of.ensures ∙ ap (cuts_at ws) c.as_slice-4.ensures.value) c.in_ok-merge_lines.ensures.ends
     (elim c.if-are_ended.branch [
       | then-are_ended+in_ok-put w ↦ inl (
