@@ -21,6 +21,7 @@ use Rattle.mr_shard_files.specs.Beside.{ReportsCause, no_note}
 use Rattle.mr_shard_files.specs.Told.{told_of_merge}
 use Rattle.mr_shard_files.specs.declared.fault.ShardFault.{ShardFault}
 use Rattle.mr_shard_files.specs.declared.fault.ShardFault.TheVariants.{CannotRead, OtherPart, OutOfMemory}
+use Rattle.mr_shard_files.specs.declared.partition.Made.{Made}
 use Rattle.mr_shard_files.specs.declared.partition.PartMerge.{PartMerge}
 use Rattle.mr_shard_files.specs.declared.stream.Part.{Part}
 use Rattle.mr_shard_files.specs.declared.tails.Tail.{Tail}
@@ -171,6 +172,14 @@ abbrev pub AreNext : {R : Type 0} → List (Part R) → List Sha256 → Type 0
 AreNext [] [] = Unit {0}
 AreNext (q ∷ qs) (h ∷ hs) = HasMore q.hasher (drop q.digested q.held) h × AreNext qs hs
 AreNext _ _ = ⊥
+
+-- those, and behind them one that the part of the result may have next
+pub record AreNextWith {R W : Type 0} (parts : List (Part R)) (made : Made W) (hashers : List Sha256) : Type 0 where
+  pub first : List Sha256
+  pub last : Sha256
+  pub is : hashers ≡ first ++ last ∷ []
+  pub next : AreNext parts first
+  pub more : HasMore made.hasher made.late.items last
 
 -- so many bytes are no more than are held
 abbrev pub AreHeld : {R : Type 0} → List ℕ → List (Part R) → Type 0

@@ -11,7 +11,7 @@ ghost use Rattle.mr_shard_files.specs.Beside.{files_told};
 ghost use Rattle.mr_shard_files.specs.Faults.{IsPartsFault};
 ghost use Rattle.mr_shard_files.specs.Made.{HasWritten, ReportsUnwritten};
 ghost use Rattle.mr_shard_files.specs.Merging.{AreAllWritten};
-ghost use Rattle.mr_shard_files.specs.Streams.{IsJoinedTo, IsNotJoined};
+ghost use Rattle.mr_shard_files.specs.Streams.{HasMore, IsJoinedTo, IsNotJoined};
 ghost use Rattle.mr_input.specs.Files.{contents};
 
 use crate::fault::ShardFault;
@@ -20,6 +20,7 @@ use crate::pairs::{add_pairs, no_pairs, test_totals};
 use crate::rounds::merge_partition;
 use crate::sharing::put_verdict;
 use crate::stream::Part;
+use crate::tails::Tail;
 use mr_files::{Store, WriteFault, part_file, part_name};
 use mr_jobs::{Job, Request};
 use mr_shards::{FileNote, Merger, ShardFiles, Verdict, note_for};
@@ -46,7 +47,7 @@ fn begin_part<S: Store>(
 {
     let name = part_name(alloc, dir, partition)?;
     match store.writer(alloc, name.as_str()) {
-        Ok(writer) => Ok(Made::new(name, writer)),
+        Ok(writer) => Ok(Made::new(alloc, name, writer)),
         Err(WriteFault::OutOfMemory) => Err(ShardFault::OutOfMemory),
         Err(WriteFault::Device) => Err(ShardFault::CannotWrite(name)),
     }
@@ -162,12 +163,14 @@ pub(crate) fn partitions_written<S: Store, T: Threads>(
     Ok(notes)
 }
 
-/// A part of the result, with the length and digest of what was written.
+/// A part of the result, with the length and digest of what was written. The digest lacks the
+/// `late` bytes, so that another thread can add them.
 #[derive(Drop)]
 pub(crate) struct Made<W: CountedWrite + Drop> {
     pub name: String,
     pub writer: W,
     hasher: Sha256,
+    late: Vec<u8>,
     length: u64,
 }
 
@@ -185,7 +188,7 @@ pub(crate) fn unwritten(alloc: Global, name: &str, lacked_memory: bool) -> Shard
 }
 
 impl<W: CountedWrite + Drop> Made<W> {
-    pub fn new(name: String, writer: W) -> Made<W>
+    pub fn new(alloc: Global, name: String, writer: W) -> Made<W>
         ensures name { result.name ≡ name }
         ensures writer { result.writer ≡ writer }
         ensures begins { Agrees (W.seen writer).contents [] → HasWritten W.seen [] result }
@@ -194,8 +197,31 @@ impl<W: CountedWrite + Drop> Made<W> {
             name,
             writer,
             hasher: Sha256::new(),
+            late: Vec::new(alloc),
             length: 0,
         }
+    }
+
+    pub fn tail(&self) -> Tail<'_>
+        ensures hasher { result.hasher.now ≡ self.entry.now.hasher }
+        ensures bytes { result.bytes.now ≡ self.entry.now.late.items }
+    {
+        Tail {
+            hasher: &self.hasher,
+            bytes: self.late.as_slice(),
+        }
+    }
+
+    /// Takes a digest that has the late bytes too.
+    pub fn keep_digest(&mut self, hasher: Sha256)
+        requires { HasMore self.old.hasher self.old.late.items hasher }
+        ensures written { (bytes : List ℕ) → HasWritten W.seen bytes self.old
+            → HasWritten W.seen bytes self.new }
+        ensures writer { self.new.writer ≡ self.old.writer }
+        ensures name { self.new.name ≡ self.old.name }
+    {
+        self.hasher = hasher;
+        self.late.clear();
     }
 
     /// Appends a piece.
@@ -214,7 +240,7 @@ impl<W: CountedWrite + Drop> Made<W> {
             let lacked = self.writer.is_out_of_memory();
             return Err(unwritten(alloc, self.name.as_str(), lacked));
         }
-        self.hasher.update(piece);
+        self.late.extend_from_slice(piece)?;
         self.length = length;
         Ok(())
     }
@@ -239,10 +265,12 @@ impl<W: CountedWrite + Drop> Made<W> {
             → n ≡ note_for (file_of_part partition) bytes) }
     {
         let file = part_file(alloc, partition)?;
+        let mut hasher = self.hasher.clone()?;
+        hasher.update(self.late.as_slice());
         Ok(FileNote {
             name: Vec::from_slice(alloc, file.as_bytes())?,
             length: self.length,
-            digest: self.hasher.clone()?.finalize(),
+            digest: hasher.finalize(),
         })
     }
 }

@@ -1,12 +1,13 @@
 //! Merges parts while it reads them, in rounds.
 //!
 //! A round fills a window of each part, merges what it can of them (`mr_shards::Merger`), writes
-//! that, and passes what it took. Meanwhile up to two threads digest what was read: SHA-256 takes
-//! longer than the merge. Cost: each byte is read, digested and merged once; of a line longer than
-//! a window only its end is looked for again.
+//! that, and passes what it took. Meanwhile up to two threads digest what was read, and what the
+//! round before wrote: SHA-256 takes as long as the merge. Cost: each byte is read, digested and
+//! merged once, and what is written is copied once; of a line longer than a window only its end is
+//! looked for again.
 ghost use Rattle.std.specs.Prelude.{◌≡◌, ◌⊎◌, [], ◌++◌, ℕ, List, Err, Ok, IfErr, IfOk, OnOk};
 ghost use Rattle.std.specs.Prelude.{length, string_bytes};
-ghost use Rattle.mr_shard_files.specs.Streams.{AreBlamed, AreMergedTo, AreNext, IsJoinedTo};
+ghost use Rattle.mr_shard_files.specs.Streams.{AreBlamed, AreMergedTo, AreNextWith, IsJoinedTo};
 ghost use Rattle.mr_shard_files.specs.Streams.{AreTaken, IsBlamedOver, IsNotJoined, IsStopped};
 ghost use Rattle.mr_shard_files.specs.Streams.{IsStoppedAt};
 ghost use Rattle.mr_shard_files.specs.Streams.{AllAre, AreAllBeside, IsNotBeside, IsRoundFault};
@@ -20,7 +21,7 @@ use crate::fault::{ShardFault, of_merge};
 use crate::partition::{Made, PartMerge};
 use crate::stream::Part;
 use crate::streams::{are_done, fill_all, pass_all, settle_all, share_of, windows_of};
-use crate::tails::{all_taken, keep_all, middle_of, tails_of, taken_of_both};
+use crate::tails::{all_taken, keep_all, keep_tail, middle_of, tails_of, taken_of_both};
 use mr_jobs::Job;
 use mr_shards::{MergeFault, Merger, ShardFiles};
 use mr_store::{CountedRead, CountedWrite};
@@ -125,13 +126,15 @@ fn all_beside(
     })
 }
 
-/// Like `merge_held`, while another thread, if there can be one, digests for some of the parts.
-fn merge_beside_one<R: CountedRead + Drop, T: Threads>(
+/// Like `merge_held`, while another thread, if there can be one, digests for some of the parts, and
+/// for what was written.
+fn merge_beside_one<R: CountedRead + Drop, W: CountedWrite + Drop, T: Threads>(
     rt: &T,
     alloc: Global,
     job: &Job,
     parts: &[Part<R>],
     some: &[Part<R>],
+    made: &Made<W>,
     merger: Merger,
 ) -> Result<Beside, Stop>
     requires count { length parts.now ≡ length merger.held }
@@ -139,10 +142,11 @@ fn merge_beside_one<R: CountedRead + Drop, T: Threads>(
     ensures kept { IfOk result (λ b. (length b.merger.held ≡ length merger.held)
         × IsWaitingFor job.now b.merger.waiting) }
     ensures ok { IfOk result (λ b. MergesHeld job.now parts.now merger b.merger) }
-    ensures digests { IfOk result (λ b. AreNext some.now b.digests.items) }
+    ensures digests { IfOk result (λ b. AreNextWith some.now made.now b.digests.items) }
     ensures err { IfErr result (λ e. IsStoppedAt job.now parts.now merger e) }
 {
-    let tails = tails_of(alloc, some)?;
+    let mut tails = tails_of(alloc, some)?;
+    keep_tail(&mut tails, made.tail())?;
     let lacking = tails.as_slice();
     let digesting = move || -> Result<Vec<Sha256>, AllocError>
         ensures { IfOk result (λ hs. AreTaken lacking.entry.now hs.items) }
@@ -159,13 +163,14 @@ fn merge_beside_one<R: CountedRead + Drop, T: Threads>(
     with_digests(digests, merged)
 }
 
-/// Like `merge_held`, while up to two threads digest, about half of the bytes each: SHA-256 takes
-/// longer than the merge.
-fn merge_beside<R: CountedRead + Drop, T: Threads>(
+/// Like `merge_held`, while up to two threads digest for the parts and for what was written, about
+/// half of the bytes each: SHA-256 takes as long as the merge.
+fn merge_beside<R: CountedRead + Drop, W: CountedWrite + Drop, T: Threads>(
     rt: &T,
     alloc: Global,
     job: &Job,
     parts: &[Part<R>],
+    made: &Made<W>,
     merger: Merger,
 ) -> Result<Beside, Stop>
     requires count { length parts.now ≡ length merger.held }
@@ -173,10 +178,10 @@ fn merge_beside<R: CountedRead + Drop, T: Threads>(
     ensures kept { IfOk result (λ b. (length b.merger.held ≡ length merger.held)
         × IsWaitingFor job.now b.merger.waiting) }
     ensures ok { IfOk result (λ b. MergesHeld job.now parts.now merger b.merger) }
-    ensures digests { IfOk result (λ b. AreNext parts.now b.digests.items) }
+    ensures digests { IfOk result (λ b. AreNextWith parts.now made.now b.digests.items) }
     ensures err { IfErr result (λ e. IsStoppedAt job.now parts.now merger e) }
 {
-    let (front, back) = parts.split_at(middle_of(parts));
+    let (front, back) = parts.split_at(middle_of(parts, made.tail().bytes.len()));
     let tails = tails_of(alloc, front)?;
     let lacking = tails.as_slice();
     let digesting = move || -> Result<Vec<Sha256>, AllocError>
@@ -188,9 +193,9 @@ fn merge_beside<R: CountedRead + Drop, T: Threads>(
         ensures kept { IfOk result (λ b. (length b.merger.held ≡ length merger.held)
             × IsWaitingFor job.entry.now b.merger.waiting) }
         ensures ok { IfOk result (λ b. MergesHeld job.entry.now parts.entry.now merger b.merger) }
-        ensures digests { IfOk result (λ b. AreNext back.entry.now b.digests.items) }
+        ensures digests { IfOk result (λ b. AreNextWith back.entry.now made.entry.now b.digests.items) }
         ensures err { IfErr result (λ e. IsStoppedAt job.entry.now parts.entry.now merger e) }
-    { merge_beside_one(rt, alloc, job, parts, back, merger) };
+    { merge_beside_one(rt, alloc, job, parts, back, made, merger) };
     let (first, beside) = thread::join(rt, digesting, stepping);
     all_beside(first, beside)
 }
@@ -218,8 +223,10 @@ fn merge_round<R: CountedRead + Drop, W: CountedWrite + Drop, T: Threads>(
     ensures name { made.new.name ≡ made.old.name }
 {
     fill_all(alloc, parts, WINDOW.max(share_of(parts)))?;
-    let Beside { merger, digests } = merge_beside(rt, alloc, job, parts, last)?;
-    keep_all(parts, digests.as_slice())?;
+    let Beside { merger, digests } = merge_beside(rt, alloc, job, parts, made, last)?;
+    let (of_parts, of_made) = digests.as_slice().split_at(parts.len());
+    keep_all(parts, of_parts)?;
+    made.keep_digest(of_made[0].clone()?);
     made.put(alloc, merger.text())?;
     Ok(merger)
 }

@@ -1,4 +1,4 @@
-//! Takes digests apart from their parts.
+//! Takes digests apart from what they are of: parts that are read, and the one that is written.
 ghost use Rattle.std.specs.Prelude.{◌≡◌, ◌≤◌, List, [], ◌∷◌, ◌++◌, drop, length, IfOk, OnOk};
 ghost use Rattle.sha2.specs.declared.Sha256.{Sha256 as Digested};
 ghost use Rattle.mr_shard_files.specs.Streams.{AllAre, AreNext, AreTailsOf, AreTaken, HasMore};
@@ -9,7 +9,7 @@ use mr_store::CountedRead;
 use sha2::{Digest, Sha256};
 use std::alloc::{AllocError, Global};
 
-/// A digest, and the bytes that it lacks.
+/// A digest, and bytes that it lacks.
 #[derive(Clone, Copy)]
 pub(crate) struct Tail<'a> {
     pub hasher: &'a Sha256,
@@ -26,7 +26,7 @@ fn tail_of<'a, R: CountedRead + Drop>(part: &'a Part<R>) -> Tail<'a>
     }
 }
 
-fn keep_tail<'a>(tails: &mut Vec<Tail<'a>>, tail: Tail<'a>) -> Result<(), AllocError>
+pub(crate) fn keep_tail<'a>(tails: &mut Vec<Tail<'a>>, tail: Tail<'a>) -> Result<(), AllocError>
     ensures { OnOk result (tails.new.items ≡ tails.old.items ++ tail.entry ∷ []) }
 {
     tails.push(tail).map_err(AllocError::from)?;
@@ -75,12 +75,13 @@ pub(crate) fn all_taken(alloc: Global, tails: &[Tail<'_>]) -> Result<Vec<Sha256>
     Ok(hashers)
 }
 
-/// Divides the parts so that the digests on both sides lack about as many bytes.
-pub(crate) fn middle_of<R: CountedRead + Drop>(parts: &[Part<R>]) -> usize
+/// Divides the parts so that the digests on both sides lack about as many bytes; so many more are
+/// lacking behind them.
+pub(crate) fn middle_of<R: CountedRead + Drop>(parts: &[Part<R>], late: usize) -> usize
     ensures { result ≤ length parts.now }
 {
     let (mut low, mut high) = (0, parts.len());
-    let (mut before, mut behind) = (0usize, 0usize);
+    let (mut before, mut behind) = (0, late);
     while low < high {
         if before <= behind {
             before = before.saturating_add(parts[low].undigested().len());
