@@ -1,5 +1,5 @@
 -- Fields between commas, and numbers that are added one by one.
-use Rattle.std.proofs.Common.{◌≡◌, ℕ, ◌+◌, ◌<◌, ◌≤◌, ◌^◌, cond, eqb, Bool, true, false, List, [], ◌∷◌, ◌++◌, length, map, drop, get_or, refl, sym, ◌∙◌, ap, subst, arith, inl, inr, Option, None, Some}
+use Rattle.std.proofs.Common.{◌≡◌, ℕ, ◌+◌, ◌<◌, ◌≤◌, ◌^◌, cond, eqb, Bool, true, false, List, [], ◌∷◌, ◌++◌, length, map, drop, get_or, refl, sym, ◌∙◌, ap, subst, arith, inl, inr, ◌⊎◌, Option, None, Some}
 use Rattle.std.specs.Prelude.{decimal}
 use Rattle.std.proofs.lemmas.Bool.{cases_eq, eq-eqb, ne_eqb}
 use Rattle.std.proofs.lemmas.List.{append-nil}
@@ -16,7 +16,7 @@ use Rattle.mr_reduce.proofs.FileLemmas.{comma}
 use Rattle.mr_sequential.proofs.NameLaws.{less}
 use Rattle.mr_shards.specs.Lines.{fields, longer, numbers_in, places_in}
 use Rattle.mr_bytes.specs.Cut.{Lacks}
-use Rattle.mr_shards.specs.Index.{fields_left, number_past}
+use Rattle.mr_shards.specs.Index.{BeginsList, fields_left, number_past}
 use Rattle.mr_shards.specs.Numbers.{BeginsWith, EndsDigits, IsCutBehind}
 use Rattle.mr_shards.specs.Views.{IsListTo}
 use Rattle.mr_shards.specs.Portions.{Shift, shifted_value}
@@ -25,6 +25,8 @@ use Rattle.mr_bytes.specs.declared.Value.TheVariants.{At}
 use Rattle.std.specs.Prelude.{IfSome, MatchOption}
 use Rattle.std.specs.Str.Parse.{digits_value}
 use Rattle.std.proofs.lemmas.List.{append_assoc, length-append}
+use Rattle.std.proofs.Math.Seq.{drop-append-add}
+use Rattle.mr_shards.proofs.NumberLemmas.{IsReadOn, TakesDigit, known-all, known-more}
 use Rattle.mr_shards.proofs.ReadingLemmas.{decimal-lacks, fields-commas, fields-last, fields-next, values-read}
 
 -- ---- fields that were read
@@ -118,6 +120,35 @@ pub field-next : (text : List ℕ) (n : ℕ) (rest : List ℕ) → IsCutBehind t
 field-next text n [] cut some comma = absurd (omega (arith, some))
 field-next text n (b ∷ bs) cut some comma =
     ap fields (cut.is ∙ ap (λ c. decimal n ++ c ∷ bs) comma) ∙ fields-next (decimal n) bs (number-lacks n cut.small)
+
+begun-rest : (more : List (List ℕ)) → 0 < length (flat_map (λ g. 44 ∷ g) more) → get_or (flat_map (λ g. 44 ∷ g) more) 0 0 ≡ 44
+begun-rest [] some = absurd (omega (arith, some))
+begun-rest (f ∷ fs) some = refl
+
+-- the first number of a list, digit by digit
+pub begun-more : (text : List ℕ) (b : BeginsList text) (at value : ℕ) → at < length text → (get_or text at 0 ≡ 44 → ⊥) → IsReadOn b.number at value → TakesDigit text b.number at value
+begun-more text b at value low other k = known-more text b.number _ at value (field-begins text b.number b.more b.small b.is) (begun-rest b.more) low other k
+
+pub begun-all : (text : List ℕ) (b : BeginsList text) (at value : ℕ) → IsReadOn b.number at value → (length text ≤ at) ⊎ (get_or text at 0 ≡ 44) → (value ≡ b.number) × (at ≡ length (decimal b.number))
+begun-all text b at value k end = known-all text b.number _ at value (field-begins text b.number b.more b.small b.is) k end
+
+-- the list behind its comma
+pub begun-comma : (text : List ℕ) (n : ℕ) (more : List (List ℕ)) (at : ℕ) → n < 2 ^ 32 → fields text ≡ decimal n ∷ more → at ≡ length (decimal n) → at < length text
+    → fields text ≡ decimal n ∷ fields (drop (at + 1) text)
+begun-comma text n [] at small e end low =
+    let b = field-begins text n [] small e in
+    absurd (omega (arith, low, end, ap length b.is, length-append (decimal n) []))
+begun-comma text n (f ∷ fs) at small e end low =
+    let b = field-begins text n (f ∷ fs) small e in
+    let tail : List ℕ = f ++ flat_map (λ g. 44 ∷ g) fs in
+    let left : drop (at + 1) text ≡ tail = (λ i. drop (end i + 1) (b.is i)) ∙ drop-append-add (decimal n) (44 ∷ tail) 1 in
+    ap fields b.is ∙ fields-next (decimal n) tail (number-lacks n b.small) ∙ ap (λ l. decimal n ∷ fields l) (sym left)
+
+pub begun-end : (text : List ℕ) (n : ℕ) (more : List (List ℕ)) (at : ℕ) → n < 2 ^ 32 → fields text ≡ decimal n ∷ more → at ≡ length (decimal n) → length text ≤ at → fields text ≡ decimal n ∷ []
+begun-end text n [] at small e end over = e
+begun-end text n (f ∷ fs) at small e end over =
+    let b = field-begins text n (f ∷ fs) small e in
+    absurd (omega (arith, over, end, ap length b.is, length-append (decimal n) (44 ∷ (f ++ flat_map (λ g. 44 ∷ g) fs))))
 
 pub field-shorter : (text : List ℕ) (n : ℕ) (rest : List ℕ) → IsCutBehind text n rest → length rest ≤ length text
 field-shorter text n rest cut = omega (arith, ap length cut.is, length-append (decimal n) rest)
@@ -236,9 +267,10 @@ fields-told : (ms : List ℕ) → 0 < length ms → AllByRecursion (λ n. n < 2 
 fields-told [] some small = absurd (omega (arith, some))
 fields-told (m ∷ ms) some small = fields-commas m ms small
 
-pub read-refused : (told : List ℕ) (text : Bor (List ℕ)) (last : Option ℕ) (done : List ℕ) (end : ℕ) → AreReadSo told (Some text) last done
-    → ((n : ℕ) (more : List (List ℕ)) → fields text.now ≡ decimal n ∷ more → number_past last ≤ n → n < 2 ^ 32 → ⊥) → IsListTo end told → ⊥
-read-refused told text last done end was none given =
+-- the number that comes next in a list
+pub read-next : (told : List ℕ) (text : Bor (List ℕ)) (last : Option ℕ) (done : List ℕ) (end : ℕ) → AreReadSo told (Some text) last done → IsListTo end told
+    → (n : ℕ) × (more : List (List ℕ)) × (fields text.now ≡ decimal n ∷ more) × (number_past last ≤ n) × (n ≤ end)
+read-next told text last done end was given =
     let here = fields-some text.now in
     let field : List ℕ = here.0 in
     let more : List (List ℕ) = here.1 in
@@ -250,7 +282,13 @@ read-refused told text last done end was none given =
     let w = field-among done ns field more (all-weaker (λ n. n < 2 ^ 32) (λ n. n < 2 ^ 64) done (λ n h. omega (arith, h)) was.below) small
     (sym (was.fields_are ∙ ap (λ l. map decimal done ++ l) is) ∙ all) in
     let there = number-there (end + 1) (number_past last) done ns w.0 w.1 w.2 list.rise list.below was.least_is in
-    none w.0 more (is ∙ ap (λ f. f ∷ more) w.3) there.0 (omega (arith, there.1, given.0))
+    (w.0, more, is ∙ ap (λ f. f ∷ more) w.3, there.0, omega (arith, there.1))
+
+pub read-refused : (told : List ℕ) (text : Bor (List ℕ)) (last : Option ℕ) (done : List ℕ) (end : ℕ) → AreReadSo told (Some text) last done
+    → ((n : ℕ) (more : List (List ℕ)) → fields text.now ≡ decimal n ∷ more → number_past last ≤ n → n < 2 ^ 32 → ⊥) → IsListTo end told → ⊥
+read-refused told text last done end was none given =
+    let next = read-next told text last done end was given in
+    none next.0 next.1 next.2 next.3 (omega (arith, next.4, given.0))
 
 -- ---- places of the numbers
 
@@ -265,20 +303,10 @@ places-more s old mid new done n v was is e =
     e ∙ (λ i. was i ++ is i ∷ []) ∙ append_assoc old (map (shifted_value s) (places_in done)) (shifted_value s (At n 0) ∷ [])
     ∙ ap (λ l. old ++ l) (sym (placed-last s done n))
 
--- what was read of a list is below its last number
-pub read-fits : (told : List ℕ) (text : Bor (List ℕ)) (before : Option ℕ) (done : List ℕ) (more : List (List ℕ)) (last n : ℕ) → AreReadSo told (Some text) before done
-    → fields text.now ≡ decimal n ∷ more → n < 2 ^ 32 → IsListTo last told → n ≤ last
-read-fits told text before done more last n was is high given =
-    let ns : List ℕ = given.1.0 in
-    let list = given.1.1 in
-    let small : AllByRecursion (λ n. n < 2 ^ 64) ns = all-weaker (λ n. n < last + 1) (λ n. n < 2 ^ 64) ns (λ n h. omega (arith, h, given.0)) list.below in
-    let all : fields told ≡ map decimal ns = ap fields list.text ∙ fields-told ns list.some small in
-    let w = field-among done ns (decimal n) more (all-weaker (λ n. n < 2 ^ 32) (λ n. n < 2 ^ 64) done (λ n h. omega (arith, h)) was.below) small
-    (sym (was.fields_are ∙ ap (λ l. map decimal done ++ l) is) ∙ all) in
-    let m : ℕ = w.0 in
-    let low : m < last + 1 = below-through (λ k. k < last + 1) done m w.1 (subst (AllByRecursion (λ k. k < last + 1)) w.2 list.below) in
-    let same : n ≡ m = decimal_injective n m (omega (arith, high)) (omega (arith, low, given.0)) w.3 in
-    omega (arith, low, same)
+-- the number that was cut off is the one that comes next
+pub same-next : (text : List ℕ) (n m : ℕ) (more rest : List (List ℕ)) → fields text ≡ decimal n ∷ more → fields text ≡ decimal m ∷ rest → n < 2 ^ 32 → m < 2 ^ 32 → n ≡ m
+same-next text n m more rest e e' small small' =
+    decimal_injective n m (omega (arith, small)) (omega (arith, small')) (let same : decimal n ∷ more ≡ decimal m ∷ rest = sym e ∙ e' in cc same)
 
 -- all places are those of the list
 pub places-all : (s : Shift) (told : List ℕ) (left : Option (Bor (List ℕ))) (before : Option ℕ) (done : List ℕ) (old new : List Value) → left ≡ None

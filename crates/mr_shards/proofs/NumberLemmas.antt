@@ -1,9 +1,9 @@
 -- Digits read one by one.
 use Rattle.std.proofs.Common.{◌≡◌, ℕ, suc, zero, ◌-◌, ◌+◌, ◌*◌, ◌<◌, ◌≤◌, ◌^◌, List, [], ◌∷◌, ◌++◌, ◌⊎◌, inl, inr, length, get_or, drop, take, ap, sym, subst, refl, ◌∙◌, arith}
 use Rattle.std.proofs.lemmas.Fmt.{decimal_digit, decimal-digits_value, decimal_is_IsNumeral, first_decimal}
-use Rattle.std.proofs.lemmas.List.{append_assoc, append_cancel_left, append-nil, drop_more, length-drop, length-take-le, take_all, take_more, take-append-drop}
+use Rattle.std.proofs.lemmas.List.{append_assoc, append_cancel_left, append-nil, drop_all, drop_more, get_or-append-add, get_or_append_left, length-append, length-drop, length-take-le, take_all, take_more, take-append-drop}
 use Rattle.std.proofs.lemmas.Str.{digit_value_digit}
-use Rattle.std.proofs.lemmas.Str.Parse.{digit_from_value, numerals_by_value, tells_digits}
+use Rattle.std.proofs.lemmas.Str.Parse.{digit_at, digit_from_value, numerals_by_value, tells_digits}
 use Rattle.std.specs.Char.{digit_value}
 use Rattle.std.specs.Prelude.{decimal}
 use Rattle.std.specs.Str.Parse.{AllDigits, digits_value, digits_value_after}
@@ -151,6 +151,73 @@ number-cut text at value some lead k stop =
 
 pub behind-cut : (text : List ℕ) (at value : ℕ) → IsCutBehind text value (drop at text) → IsCutBehind text value (take (length text - at) (drop at text))
 behind-cut text at value = subst (IsCutBehind text value) (sym (take_all (length text - at) (drop at text) (omega (arith, length-drop at text))))
+
+-- ---- a number that is known
+
+lt_or_le : (a b : ℕ) → (a < b) ⊎ (b ≤ a)
+lt_or_le zero zero = inr (omega arith)
+lt_or_le zero (suc b) = inl (omega arith)
+lt_or_le (suc a) zero = inr (omega arith)
+lt_or_le (suc a) (suc b) = elim (lt_or_le a b) [ inl l ↦ inl (omega (arith, l)) | inr l ↦ inr (omega (arith, l)) ]
+
+-- the digits behind that place, read on from the value, give the number
+pub record IsReadOn (n at value : ℕ) : Type 0 where
+  pub within : at ≤ length (decimal n)
+  pub value_is : digits_value_after 10 value (drop at (decimal n)) ≡ n
+
+pub known-none : (n : ℕ) → n < 2 ^ 64 → IsReadOn n 0 0
+known-none n small = record { within = omega arith; value_is = (decimal_is_IsNumeral n small).1 }
+
+-- a digit is there, and the number with it is no larger
+pub record TakesDigit (text : List ℕ) (n at value : ℕ) : Type 0 where
+  pub low : 48 ≤ get_or text at 0
+  pub within : value * 10 + get_or text at 0 ≤ n + 48
+  pub on : (next : ℕ) → next + 48 ≡ value * 10 + get_or text at 0 → IsReadOn n (at + 1) next
+
+-- so it is where no comma is
+pub known-more : (text : List ℕ) (n : ℕ) (rest : List ℕ) (at value : ℕ) → BeginsWith text n rest → (0 < length rest → get_or rest 0 0 ≡ 44) → at < length text → (get_or text at 0 ≡ 44 → ⊥) → IsReadOn n at value
+    → TakesDigit text n at value
+known-more text n rest at value b comma low other k =
+    let ds : List ℕ = decimal n in
+    let long : length text ≡ length ds + length rest = ap length b.is ∙ length-append ds rest in
+    let inside : at < length ds = elim (lt_or_le at (length ds)) [
+      | inl l ↦ l
+      | inr past ↦ (
+          let at_end : at ≡ length ds + 0 = omega (arith, past, k.within) in
+          let first : get_or text at 0 ≡ get_or rest 0 0 = ap (λ l. get_or l at 0) b.is ∙ ap (λ i. get_or (ds ++ rest) i 0) at_end ∙ get_or-append-add ds rest 0 0 in
+          absurd (other (first ∙ comma (omega (arith, long, low, at_end)))))
+    ] in
+    let c = get_or ds at 0 in
+    let here : get_or text at 0 ≡ c = ap (λ l. get_or l at 0) b.is ∙ get_or_append_left ds rest 0 at inside in
+    let digit = digit_at ds at (decimal_is_IsNumeral n b.small).0.1 inside in
+    let v : digit_value c + 48 ≡ c = digit_value_digit c digit in
+    let on : digits_value_after 10 (value * 10 + digit_value c) (drop (at + 1) ds) ≡ n = ap (digits_value_after 10 value) (sym (drop_more ds at 0 inside)) ∙ k.value_is in
+    record {
+      low = omega (arith, here, digit.0);
+      within = omega (arith, here, v, on, grows (value * 10 + digit_value c) (drop (at + 1) ds));
+      on = λ next e.
+          (let same : value * 10 + digit_value c ≡ next = omega (arith, e, here, v) in
+          record { within = omega (arith, inside); value_is = ap (λ m. digits_value_after 10 m (drop (at + 1) ds)) (sym same) ∙ on });
+    }
+
+-- at a comma or at the end the number is read
+pub known-all : (text : List ℕ) (n : ℕ) (rest : List ℕ) (at value : ℕ) → BeginsWith text n rest → IsReadOn n at value → (length text ≤ at) ⊎ (get_or text at 0 ≡ 44) → (value ≡ n) × (at ≡ length (decimal n))
+known-all text n rest at value b k end =
+    let ds : List ℕ = decimal n in
+    let long : length text ≡ length ds + length rest = ap length b.is ∙ length-append ds rest in
+    let past : length ds ≤ at = elim (lt_or_le at (length ds)) [
+      | inr l ↦ l
+      | inl inside ↦ elim end [
+        | inl over ↦ omega (arith, over, inside, long)
+        | inr comma ↦ (
+            let digit = digit_at ds at (decimal_is_IsNumeral n b.small).0.1 inside in
+            let here : get_or text at 0 ≡ get_or ds at 0 = ap (λ l. get_or l at 0) b.is ∙ get_or_append_left ds rest 0 at inside in
+            omega (arith, here, digit.0, comma))
+      ]
+    ] in (
+      ap (digits_value_after 10 value) (sym (drop_all at ds past)) ∙ k.value_is,
+      omega (arith, past, k.within),
+    )
 
 -- ---- a text that is a number
 

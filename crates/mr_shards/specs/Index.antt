@@ -1,5 +1,5 @@
 -- The files that a line of an index names, as numbers between commas.
-use Rattle.std.specs.Prelude.{◌≡◌, ℕ, suc, ◌+◌, ◌<◌, ◌^◌, List, [], ◌∷◌, Option, None, Some, length, map}
+use Rattle.std.specs.Prelude.{◌≡◌, ℕ, suc, ◌+◌, ◌<◌, ◌^◌, List, [], ◌∷◌, Option, None, Some, decimal, length, map}
 use Rattle.std.specs.Borrow.{Bor}
 use Rattle.std.specs.List.{AllByRecursion}
 use Rattle.std.specs.Ordering.{nat_cmp}
@@ -34,6 +34,13 @@ fields_left (Some rest) = fields rest.now
 abbrev pub size_left : Option (Bor (List ℕ)) → ℕ
 size_left None = 0
 size_left (Some rest) = suc (length rest.now)
+
+-- the list begins with a number that fits in 32 bits
+pub record BeginsList (list : List ℕ) : Type 0 where
+  pub number : ℕ
+  pub more : List (List ℕ)
+  pub is : fields list ≡ decimal number ∷ more
+  pub small : number < 2 ^ 32
 
 -- the least number behind the last one
 abbrev pub number_past : Option ℕ → ℕ

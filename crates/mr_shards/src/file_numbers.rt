@@ -8,12 +8,12 @@ ghost use Rattle.std.specs.Prelude.{List, OnOk, MatchOption, decimal, length, ma
 ghost use Rattle.mr_bytes.specs.declared.Value.TheVariants.{At};
 ghost use Rattle.mr_shards.specs.Lines.{fields, numbers_in, places_in};
 ghost use Rattle.mr_shards.specs.Index.{NumbersMove, NumbersRead};
-ghost use Rattle.mr_shards.specs.Index.{fields_left, number_past, size_left};
+ghost use Rattle.mr_shards.specs.Index.{BeginsList, fields_left, number_past, size_left};
 ghost use Rattle.mr_shards.specs.Portions.{shifted_value};
 ghost use Rattle.mr_shards.specs.Views.{IsListTo};
 
 use crate::numbers::cut_number;
-use crate::shift::{Shift, shifted_file};
+use crate::shift::Shift;
 use mr_bytes::Value;
 use std::alloc::AllocError;
 
@@ -52,28 +52,45 @@ pub(crate) fn add_places(
         ≡ places.old.items ++ map (shifted_value moved) (places_in (numbers_in list.now))) }
 {
     let mut left = Some(list);
-    let mut before = None;
     while let Some(text) = left {
-        let Some((number, rest)) = next_number(text, before) else {
-            return Ok(());
-        };
-        let Some(place) = place_in(number, moved) else {
-            return Ok(());
-        };
-        places.push(place)?;
-        before = Some(number);
+        let (number, rest) = first_number(text);
+        places.push(place_in(number, moved))?;
         left = rest;
     }
     Ok(())
 }
 
-/// A place in a file, moved; none if the file's number doesn't fit in 32 bits.
-fn place_in(number: u32, moved: Shift) -> Option<Value>
-    ensures { MatchOption result (2 ^ 32 ≤ moved.files + number) (λ v. v ≡ shifted_value moved (At number 0)) }
+/// A place in a file, moved.
+fn place_in(number: u32, moved: Shift) -> Value
+    requires { moved.files + number < 2 ^ 32 }
+    ensures { result ≡ shifted_value moved (At number 0) }
 {
-    let file = shifted_file(&moved, number as u64)?;
+    let file = moved.files + u64::from(number);
     let offset = if number == 0 { moved.bytes } else { 0 };
-    Some(Value::At { file, offset })
+    Value::At {
+        file: file as u32,
+        offset,
+    }
+}
+
+/// The first number of a list that was tested, and the list behind its comma if there is one.
+#[inline(always)]
+fn first_number(list: &[u8]) -> (u32, Option<&[u8]>)
+    requires { BeginsList list.now }
+    ensures number { fields list.entry.now ≡ decimal result.0 ∷ fields_left result.1 }
+    ensures fits { result.0 < 2 ^ 32 }
+    ensures shorter { size_left result.1 ≤ length list.entry.now }
+{
+    let mut number = 0;
+    let mut at = 0;
+    while at < list.len() {
+        if list[at] == b',' {
+            return (number, Some(&list[at + 1..]));
+        }
+        number = number * 10 + u32::from(list[at] - b'0');
+        at += 1;
+    }
+    (number, None)
 }
 
 /// The first number of a list, if it is greater than the last one and fits in 32 bits, and the list
@@ -89,12 +106,13 @@ fn next_number(list: &[u8], last: Option<u32>) -> Option<(u32, Option<&[u8]>)>
     let Some((number, rest)) = cut_number(list) else {
         return None;
     };
-    let Ok(file) = u32::try_from(number) else {
-        return None;
-    };
     if number < least_past(last) {
         return None;
     }
+    if number >= 1 << 32 {
+        return None;
+    }
+    let file = number as u32;
     if rest.is_empty() {
         return Some((file, None));
     }

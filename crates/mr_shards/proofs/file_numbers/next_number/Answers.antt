@@ -1,4 +1,4 @@
-use Rattle.std.proofs.Common.{◌∙◌, ◌<◌, [], ◌∷◌, ap, arith, eqb-true, length, refl, sym}
+use Rattle.std.proofs.Common.{◌∙◌, ◌<◌, ◌∷◌, ap, arith, eqb-true, length, refl, sym}
 use Rattle.std.proofs.lemmas.Bool.{eqb-false}
 use Rattle.std.specs.Prelude.{decimal}
 use Rattle.mr_shards.specs.Lines.{fields}
@@ -9,10 +9,10 @@ use Rattle.mr_shards.proofs.file_numbers.next_number.Goals as goal
 pub returns-in_default-clause-none : goal.returns-in_default-clause-none
 returns-in_default-clause-none c = λ e n more is low high. c.in_default.ensures.none refl n _ (field-begins c.args.list.now n more high is)
 
-pub returns-in_default-try_from-clause-none : goal.returns-in_default-try_from-clause-none
-returns-in_default-try_from-clause-none c = λ e n more is low high.
+pub returns-then-number-clause-none : goal.returns-then-number-clause-none
+returns-then-number-clause-none c = λ e n more is low high.
     let same = field-same c.args.list.now c.in-Some.number c.in-Some.rest.now n more c.in-Some.ensures.some high is in
-    omega (arith, same, high, c.in_default-try_from.ensures)
+    omega (arith, same, high, c.if-number.true)
 
 pub returns-then-number-least_past-clause-none : goal.returns-then-number-least_past-clause-none
 returns-then-number-least_past-clause-none c = λ e n more is low high.
@@ -22,7 +22,7 @@ returns-then-number-least_past-clause-none c = λ e n more is low high.
 pub returns-then-is_empty-clause-number : goal.returns-then-is_empty-clause-number
 returns-then-is_empty-clause-number c =
     let none = eqb-true (length c.in-Some.rest.now) 0 (sym c.is_empty.ensures ∙ c.if-is_empty.true) in
-    field-last c.args.list.now c.in-Some.number c.in-Some.rest.now c.in-Some.ensures.some none ∙ ap (λ n. decimal n ∷ []) (sym c.in-Ok.ensures.1)
+    field-last c.args.list.now c.in-Some.number c.in-Some.rest.now c.in-Some.ensures.some none
 
 pub returns-then-rest-ne44-clause-none : goal.returns-then-rest-ne44-clause-none
 returns-then-rest-ne44-clause-none c = λ e n more is low high.
@@ -34,4 +34,4 @@ returns-clause-number c =
     let rest = c.in-Some.rest.now in
     let some : 0 < length rest = grind (arith, eqb-false (length rest) 0 (sym c.is_empty.ensures ∙ c.if-is_empty.false)) in
     field-next c.args.list.now c.in-Some.number rest c.in-Some.ensures.some some c.if-rest-ne44.false
-    ∙ (let same = sym c.in-Ok.ensures.1 in let left = ap fields (sym (behind 0 rest)) in λ i. decimal (same i) ∷ left i)
+    ∙ (let left = ap fields (sym (behind 0 rest)) in ap (λ l. decimal c.in-Some.number ∷ l) left)
