@@ -1,5 +1,5 @@
 -- Pairs that a merger counted of the shards' parts: what their lines state.
-use Rattle.std.proofs.Common.{◌≡◌, ℕ, zero, suc, ◌+◌, ◌<◌, ◌≤◌, ◌^◌, ◌⊎◌, inl, inr, List, [], ◌∷◌, ◌++◌, append_assoc, append-nil, length, refl, ap, sym, ◌∙◌, subst, arith, Option, None, Some}
+use Rattle.std.proofs.Common.{◌≡◌, ℕ, zero, suc, ◌<◌, ◌^◌, inl, inr, List, [], ◌∷◌, ◌++◌, append_assoc, append-nil, length, refl, ap, sym, ◌∙◌, subst, arith, Option, None, Some}
 use Rattle.std.specs.Prelude.{decimal, slice_index_or}
 use Rattle.std.specs.List.{AllByRecursion, flat_map}
 use Rattle.mr_bytes.specs.declared.Value.TheVariants.{At}
@@ -9,7 +9,6 @@ use Rattle.mr_reduce.specs.Text.{comma_separated, files_line, files_of, place_li
 use Rattle.mr_shards.specs.declared.cursor.Held.{Held}
 use Rattle.mr_shards.specs.declared.merger.ShardText.{ShardText}
 use Rattle.mr_shards.specs.Cursors.{IsSum, all_pairs, pairs_in}
-use Rattle.mr_shards.specs.Joined.{verdict_at}
 use Rattle.mr_shards.specs.Lines.{EndsLine, HasLine, groups_in, lines}
 use Rattle.mr_shards.specs.Merged.{Group, group_text, texts}
 use Rattle.mr_shards.specs.Refused.{IsRest, IsShardText, text_at}
@@ -21,9 +20,8 @@ use Rattle.mr_shards.proofs.RefusedLemmas.{have-lines}
 use Rattle.mr_shard_files.specs.declared.fault.ShardFault.{ShardFault}
 use Rattle.mr_shard_files.specs.declared.fault.ShardFault.TheVariants.{OtherTotal}
 use Rattle.mr_shard_files.specs.Beside.{AreOutputs}
-use Rattle.mr_shard_files.specs.Pairs.{HaveTotal, IsAdded, IsOtherPairs, IsTotalOf, IsUnfit, StateTogether, States, total_at}
-use Rattle.mr_shard_files.specs.Streams.{AllAre}
-use Rattle.mr_shard_files.proofs.PairLemmas.{have_one, no_texts, texts_more}
+use Rattle.mr_shard_files.specs.Pairs.{HaveTotal, IsOtherPairs, IsTotalOf, IsUnfit, StateTogether, States, total_at}
+use Rattle.mr_shard_files.proofs.PairLemmas.{have_one}
 
 -- the line of a group, which states its pairs
 record IsLine (job : JobSpec) (g : Group) : Type 0 where

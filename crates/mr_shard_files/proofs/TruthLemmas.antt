@@ -1,5 +1,5 @@
 -- What the joined verdict is worth, whatever request the verdicts are about.
-use Rattle.std.proofs.Common.{◌≡◌, ℕ, ◌<◌, ◌^◌, List, [], ◌∷◌, length, refl, ap, sym, ◌∙◌, subst, arith, Bool, true, false}
+use Rattle.std.proofs.Common.{◌≡◌, ℕ, ◌<◌, List, [], ◌∷◌, length, refl, ap, sym, ◌∙◌, subst, arith, Bool, true, false}
 use Rattle.std.specs.Prelude.{Option}
 use Rattle.std.specs.List.{AllByRecursion}
 use Rattle.mr_files.specs.Holding.{Stored}
@@ -8,7 +8,7 @@ use Rattle.mr_files.specs.Names.{part_files}
 use Rattle.mr_jobs.specs.JobSpec.{InvertedIndex, JobSpec, LinesWith, RequestSpec, Resources, WordCount, job_flags, job_literal, job_number}
 use Rattle.mr_shards.specs.Joined.{AreMerged, AreTrueOf, IsJoined}
 use Rattle.mr_shards.specs.RangeVerdicts.{all_ranges}
-use Rattle.mr_shards.specs.Truth.{AreNotesOf, Asks, IsTrueOf, notes_for}
+use Rattle.mr_shards.specs.Truth.{AreNotesOf, Asks, IsTrueOf}
 use Rattle.mr_shards.specs.Verdict.{Note, Told}
 use Rattle.mr_shards.proofs.FlagLemmas.{one_flag}
 use Rattle.mr_shards.proofs.JoinedLaws.{joined_is_true}

@@ -1,4 +1,4 @@
-use Rattle.std.proofs.Common.{◌≡◌, ◌+◌, ◌<◌, None, get_or, suc, length, subst, arith}
+use Rattle.std.proofs.Common.{◌≡◌, ◌+◌, None, get_or, suc, length, subst, arith}
 use Rattle.std.proofs.Math.ListN.{set}
 use Rattle.mr_shards.specs.Rounds.{no_held}
 use Rattle.mr_shard_files.specs.Pairs.{IsAdded, IsSumOf}

@@ -1,4 +1,4 @@
-use Rattle.std.proofs.Common.{◌≡◌, ◌++◌, [], ◌∷◌, ◌∙◌, Some, ap, replicate, rules, sym}
+use Rattle.std.proofs.Common.{◌≡◌, ◌++◌, [], ◌∷◌, ◌∙◌, Some, ap, rules}
 use Rattle.std.proofs.lemmas.List.{replicate-append-replicate}
 use Rattle.mr_shard_files.proofs.pairs.no_pairs.Goals as goal
 

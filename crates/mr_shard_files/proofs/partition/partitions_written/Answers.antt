@@ -1,4 +1,4 @@
-use Rattle.std.proofs.Common.{◌≡◌, ℕ, ◌∷◌, ◌++◌, ◌<◌, ◌^◌, ◌∙◌, List, [], Option, Some, ap, inl, inr, length, length-append, map, refl, replicate, rules, subst, sym, arith}
+use Rattle.std.proofs.Common.{◌≡◌, ℕ, ◌∷◌, ◌++◌, ◌<◌, ◌^◌, ◌∙◌, List, [], Some, ap, inl, inr, length, length-append, map, refl, replicate, rules, subst, sym, arith}
 use Rattle.std.proofs.lemmas.List.{length-map, length-replicate}
 use Rattle.std.proofs.lemmas.Result.{err_from_is_err_and}
 use Rattle.mr_files.specs.Names.{name_of_part, part_files}
