@@ -1,7 +1,4 @@
 //! Outputs of shards, merged as they are read: worked rows at each width of the windows.
-ghost use Rattle.std.specs.Prelude.{◌≡◌, IfOk, length};
-ghost use Rattle.mr_shards.specs.Views.{IsWaitingFor};
-
 use mr_jobs::Job;
 use mr_shards::{MergeFault, Merger, ShardFiles, Window};
 use std::alloc::Global;
@@ -38,21 +35,6 @@ fn moved_on(at: (usize, usize), cuts: &[usize]) -> (usize, usize) {
     }
 }
 
-// Merges what the windows hold.
-fn round(
-    alloc: Global,
-    job: &Job,
-    merger: Merger,
-    windows: &[Window<'_>],
-) -> Result<Merger, MergeFault>
-    requires count { length windows.now ≡ length merger.held }
-    requires kind { IsWaitingFor job.now merger.waiting }
-    ensures count { IfOk result (λ m. length m.held ≡ length merger.held) }
-    ensures kind { IfOk result (λ m. IsWaitingFor job.now m.waiting) }
-{
-    merger.merge_round(alloc, job, windows)
-}
-
 // Two texts, and what comes of them in windows of each width from there on, which grow by their width where nothing is
 // taken: the merged text, or a fault.
 #[derive(Clone, Copy)]
@@ -81,7 +63,7 @@ fn in_windows(
             window_at(row.first, at.0, wide),
             window_at(row.second, at.1, wide),
         ];
-        merger = round(alloc, job, merger, &windows)?;
+        merger = merger.merge_round(alloc, job, &windows)?;
         out.extend_from_slice(merger.text())?;
         let next = moved_on(at, merger.cuts());
         if windows[0].is_last && windows[1].is_last {

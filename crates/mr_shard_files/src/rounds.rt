@@ -12,7 +12,6 @@ ghost use Rattle.mr_shard_files.specs.Streams.{AreTaken, IsBlamedOver, IsNotJoin
 ghost use Rattle.mr_shard_files.specs.Streams.{IsStoppedAt};
 ghost use Rattle.mr_shard_files.specs.Streams.{AllAre, AreAllBeside, IsNotBeside, IsRoundFault};
 ghost use Rattle.mr_shard_files.specs.Streams.{MergesHeld, Moves};
-ghost use Rattle.mr_shards.specs.Views.{IsWaitingFor};
 ghost use Rattle.mr_shard_files.specs.declared.rounds.Stop.TheVariants.{Part as told_part};
 ghost use Rattle.mr_shard_files.specs.declared.fault.ShardFault.TheVariants.{OutOfMemory as told_memory};
 ghost use Rattle.mr_shard_files.specs.Made.{HasWritten, ReportsUnwritten};
@@ -79,9 +78,8 @@ fn merge_held<R: CountedRead + Drop>(
     parts: &[Part<R>],
     merger: Merger,
 ) -> Result<Merger, MergeFault>
-    requires count { length parts.now ≡ length merger.held }
-    requires kind { IsWaitingFor job.now merger.waiting }
-    ensures kept { IfOk result (λ m. (length m.held ≡ length merger.held) × IsWaitingFor job.now m.waiting) }
+    requires { length parts.now ≡ length merger.held }
+    ensures kept { IfOk result (λ m. length m.held ≡ length merger.held) }
     ensures ok { IfOk result (MergesHeld job.now parts.now merger) }
     ensures err { IfErr result (IsBlamedOver job.now parts.now merger) }
 {
@@ -137,10 +135,8 @@ fn merge_beside_one<R: CountedRead + Drop, W: CountedWrite + Drop, T: Threads>(
     made: &Made<W>,
     merger: Merger,
 ) -> Result<Beside, Stop>
-    requires count { length parts.now ≡ length merger.held }
-    requires kind { IsWaitingFor job.now merger.waiting }
-    ensures kept { IfOk result (λ b. (length b.merger.held ≡ length merger.held)
-        × IsWaitingFor job.now b.merger.waiting) }
+    requires { length parts.now ≡ length merger.held }
+    ensures kept { IfOk result (λ b. length b.merger.held ≡ length merger.held) }
     ensures ok { IfOk result (λ b. MergesHeld job.now parts.now merger b.merger) }
     ensures digests { IfOk result (λ b. AreNextWith some.now made.now b.digests.items) }
     ensures err { IfErr result (λ e. IsStoppedAt job.now parts.now merger e) }
@@ -152,10 +148,8 @@ fn merge_beside_one<R: CountedRead + Drop, W: CountedWrite + Drop, T: Threads>(
         ensures { IfOk result (λ hs. AreTaken lacking.entry.now hs.items) }
     { all_taken(alloc, lacking) };
     let merging = move || -> Result<Merger, MergeFault>
-        requires count { length parts.now ≡ length merger.held }
-        requires kind { IsWaitingFor job.now merger.waiting }
-        ensures kept { IfOk result (λ m. (length m.held ≡ length merger.held)
-            × IsWaitingFor job.entry.now m.waiting) }
+        requires { length parts.now ≡ length merger.held }
+        ensures kept { IfOk result (λ m. length m.held ≡ length merger.held) }
         ensures ok { IfOk result (MergesHeld job.entry.now parts.entry.now merger) }
         ensures err { IfErr result (IsBlamedOver job.entry.now parts.entry.now merger) }
     { merge_held(alloc, job, parts, merger) };
@@ -173,10 +167,8 @@ fn merge_beside<R: CountedRead + Drop, W: CountedWrite + Drop, T: Threads>(
     made: &Made<W>,
     merger: Merger,
 ) -> Result<Beside, Stop>
-    requires count { length parts.now ≡ length merger.held }
-    requires kind { IsWaitingFor job.now merger.waiting }
-    ensures kept { IfOk result (λ b. (length b.merger.held ≡ length merger.held)
-        × IsWaitingFor job.now b.merger.waiting) }
+    requires { length parts.now ≡ length merger.held }
+    ensures kept { IfOk result (λ b. length b.merger.held ≡ length merger.held) }
     ensures ok { IfOk result (λ b. MergesHeld job.now parts.now merger b.merger) }
     ensures digests { IfOk result (λ b. AreNextWith parts.now made.now b.digests.items) }
     ensures err { IfErr result (λ e. IsStoppedAt job.now parts.now merger e) }
@@ -188,10 +180,8 @@ fn merge_beside<R: CountedRead + Drop, W: CountedWrite + Drop, T: Threads>(
         ensures { IfOk result (λ hs. AreTaken lacking.entry.now hs.items) }
     { all_taken(alloc, lacking) };
     let stepping = move || -> Result<Beside, Stop>
-        requires count { length parts.now ≡ length merger.held }
-        requires kind { IsWaitingFor job.now merger.waiting }
-        ensures kept { IfOk result (λ b. (length b.merger.held ≡ length merger.held)
-            × IsWaitingFor job.entry.now b.merger.waiting) }
+        requires { length parts.now ≡ length merger.held }
+        ensures kept { IfOk result (λ b. length b.merger.held ≡ length merger.held) }
         ensures ok { IfOk result (λ b. MergesHeld job.entry.now parts.entry.now merger b.merger) }
         ensures digests { IfOk result (λ b. AreNextWith back.entry.now made.entry.now b.digests.items) }
         ensures err { IfErr result (λ e. IsStoppedAt job.entry.now parts.entry.now merger e) }
@@ -209,9 +199,8 @@ fn merge_round<R: CountedRead + Drop, W: CountedWrite + Drop, T: Threads>(
     last: Merger,
     made: &mut Made<W>,
 ) -> Result<Merger, Stop>
-    requires count { length parts.old ≡ length last.held }
-    requires kind { IsWaitingFor job.now last.waiting }
-    ensures kept { IfOk result (λ m. (length m.held ≡ length last.held) × IsWaitingFor job.now m.waiting) }
+    requires { length parts.old ≡ length last.held }
+    ensures kept { IfOk result (λ m. length m.held ≡ length last.held) }
     ensures read { OnOk result (AllAre (λ _ o n. Moves R.remaining R.can_fail [] o n) parts.old parts.old parts.new) }
     ensures ok { IfOk result (λ m. MergesHeld job.now parts.new last m) }
     ensures written { IfOk result (λ m. (bytes : List ℕ) → HasWritten W.seen bytes made.old

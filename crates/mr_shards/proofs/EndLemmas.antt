@@ -270,8 +270,8 @@ whole-end job ws cs ds os f w added next t text hs bytes further last (inl all) 
 )
 
 pub merges : (job : JobSpec) (ws : List Window) (m n : Standing) (cs ds : List Cursor) (w : Option Group) (added : List ℕ) → AreOpen job m.held ws cs → length m.held ≡ length ws → AreFurther cs ds
-    → AreHeads job ds → Goes job cs ds (waits m.waiting) w added → IsWaitingFor job n.waiting → n.held ≡ helds ds → n.cuts ≡ cuts_at ws ds → AreEnded ds ⊎ HasDryHead ds
-    → Finishes job ds w added (waits n.waiting) n.text → Merges job ws m n
+    → AreHeads job ds → (IsWaitingFor job m.waiting → Goes job cs ds (waits m.waiting) w added) → (IsWaitingFor job m.waiting → IsWaitingFor job n.waiting) → n.held ≡ helds ds → n.cuts ≡ cuts_at ws ds → AreEnded ds ⊎ HasDryHead ds
+    → (IsWaitingFor job m.waiting → Finishes job ds w added (waits n.waiting) n.text) → Merges job ws m n
 merges job ws m n cs ds w added o count further heads goes kind held cuts ends finish =
     let bytes : HaveBytes ws cs = have-bytes job m.held ws cs o in
     let many : length ds ≡ length ws = sym (further-count cs ds further) ∙ o.0 in
@@ -281,15 +281,15 @@ merges job ws m n cs ds w added o count further heads goes kind held cuts ends f
     λ rs text v a. subst (λ (ns : List ℕ). AreTexts (taken_on ns rs) ds (mores rs ws v)) (sym cuts)
     (taken-texts rs ws cs ds (mores rs ws v) (going-opened job rs ws cs text m v o count a).1 bytes further) in
     let going : (rs : List Reading) (text : List ℕ) (v : AreWindows rs ws) → IsAfter job rs text m → IsGoing job (outputs_of rs) (mores rs ws v) ds w (text ++ added) =
-    λ rs text v a. goes (outputs_of rs) (mores rs ws v) text (going-opened job rs ws cs text m v o count a).0 in
+    λ rs text v a. goes a.kind (outputs_of rs) (mores rs ws v) text (going-opened job rs ws cs text m v o count a).0 in
     let finished : (rs : List Reading) (text : List ℕ) (v : AreWindows rs ws) → IsAfter job rs text m → IsGoing job (outputs_of rs) (mores rs ws v) ds (waits n.waiting) (text ++ n.text) =
-    λ rs text v a. finish-going job (outputs_of rs) (mores rs ws v) ds w added (waits n.waiting) n.text text finish (going rs text v a) in
+    λ rs text v a. finish-going job (outputs_of rs) (mores rs ws v) ds w added (waits n.waiting) n.text text (finish a.kind) (going rs text v a) in
     record {
       within = subst (λ (ns : List ℕ). AreWithin ns ws) (sym cuts) (cuts-within ws ds many);
       after = λ rs text a v.
-          after-going job (taken_on n.cuts rs) ds (mores rs ws v) (text ++ n.text) n (texts_on rs text v a) held kind
+          after-going job (taken_on n.cuts rs) ds (mores rs ws v) (text ++ n.text) n (texts_on rs text v a) held (kind a.kind)
           (subst (λ (os : List ShardText). IsGoing job os (mores rs ws v) ds (waits n.waiting) (text ++ n.text)) (sym (outputs rs v)) (finished rs text v a));
       whole = λ rs text a v last.
-          whole-end job ws cs ds (outputs_of rs) (mores rs ws v) w added (waits n.waiting) n.text text n.held bytes further last ends held finish
+          whole-end job ws cs ds (outputs_of rs) (mores rs ws v) w added (waits n.waiting) n.text text n.held bytes further last ends held (finish a.kind)
           (many ∙ sym (windows-count rs ws v) ∙ sym (length-map rs (λ (r : Reading). r.output))) (going rs text v a);
     }

@@ -69,7 +69,6 @@ impl Merger {
     /// A merger of shards with these files. Nothing is taken yet.
     pub fn new(alloc: Global, files: &[ShardFiles]) -> Result<Merger, MergeFault>
         ensures shards { IfOk result (λ m. length m.held ≡ length files.now) }
-        ensures kind { IfOk result (λ m. (job : JobSpec) → IsWaitingFor job m.waiting) }
         ensures fresh { IfOk result (λ m. (job : JobSpec) (rs : List Reading)
             → AreFresh files.now rs → IsAfter job rs [] m) }
         ensures err { IfErr result (λ e. (job : JobSpec) (rs : List Reading)
@@ -111,17 +110,16 @@ impl Merger {
     /// Merges what it can of the windows. Where all are last, it takes all. A window that isn't
     /// keeps at least its last whole line, as nobody knows what comes behind; where one has no whole
     /// line, nothing is taken. Lines that are not the job's or are out of order are refused, by
-    /// their number in the whole output. The job is that of all rounds.
+    /// their number in the whole output. Nothing is said of the text unless the job is that of all
+    /// rounds.
     pub fn merge_round(
         self,
         alloc: Global,
         job: &Job,
         windows: &[Window<'_>],
     ) -> Result<Merger, MergeFault>
-        requires count { length windows.now ≡ length self.held }
-        requires kind { IsWaitingFor job.now self.waiting }
+        requires { length windows.now ≡ length self.held }
         ensures shards { IfOk result (λ m. length m.held ≡ length self.held) }
-        ensures kind { IfOk result (λ m. IsWaitingFor job.now m.waiting) }
         ensures goes { IfOk result (λ m. GoesOn windows.now m.cuts) }
         ensures ok { IfOk result (Merges job.now windows.now self) }
         ensures err { IfErr result (λ e. (rs : List Reading) (text : List ℕ) → IsAfter job.now rs text self
@@ -222,15 +220,16 @@ fn merge_lines(
     out: &mut Vec<u8>,
 ) -> Result<(), MergeFault>
     requires heads { AreHeads job.now cursors.old.items }
-    requires waits { IsWaitingFor job.now waiting.old }
     requires empty { out.old.items ≡ [] }
-    ensures goes { OnOk result (Goes job.now cursors.old.items cursors.new.items
+    ensures goes { OnOk result (IsWaitingFor job.now waiting.old
+        → Goes job.now cursors.old.items cursors.new.items
         (waits waiting.old) (waits waiting.new) out.new.items) }
     ensures heads { OnOk result (AreHeads job.now cursors.new.items) }
-    ensures waits { OnOk result (IsWaitingFor job.now waiting.new) }
+    ensures waits { OnOk result (IsWaitingFor job.now waiting.old → IsWaitingFor job.now waiting.new) }
     ensures further { OnOk result (AreFurther cursors.old.items cursors.new.items) }
     ensures ends { OnOk result (AreEnded cursors.new.items ⊎ HasDryHead cursors.new.items) }
-    ensures err { IfErr result (BlamesGoing job.now cursors.old.items (waits waiting.old)) }
+    ensures err { IfErr result (λ e. IsWaitingFor job.now waiting.old
+        → BlamesGoing job.now cursors.old.items (waits waiting.old) e) }
 {
     let mut last = None;
     while let Some((at, line)) = next_line(cursors, last) {

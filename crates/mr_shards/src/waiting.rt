@@ -64,11 +64,11 @@ impl Waiting {
 
     /// Adds the values of a line.
     fn add(&mut self, job: &Job, line: Line<'_>) -> Result<(), MergeFault>
-        requires waits { IsWaitingFor job.now self.old }
-        requires line { IsFor job.now line.tally }
-        ensures group { OnOk result (waiting_group self.new ≡ joined (waiting_group self.old) (group_of line.entry)) }
+        requires { IsFor job.now line.tally }
+        ensures group { OnOk result (IsWaitingFor job.now self.old
+            → waiting_group self.new ≡ joined (waiting_group self.old) (group_of line.entry)) }
         ensures some { OnOk result (self.new.some ≡ self.old.some) }
-        ensures waits { OnOk result (IsWaitingFor job.now self.new) }
+        ensures waits { OnOk result (IsWaitingFor job.now self.old → IsWaitingFor job.now self.new) }
         ensures err { IfErr result (IsUnadded self.old.total line.entry.tally) }
     {
         match line.tally {
@@ -104,12 +104,12 @@ impl Waiting {
         line: Line<'_>,
         out: &mut Vec<u8>,
     ) -> Result<(), MergeFault>
-        requires waits { IsWaitingFor job.now self.old }
-        requires line { IsFor job.now line.tally }
-        ensures ok { OnOk result (Goes job.now (waits self.old) (group_of line.entry)
+        requires { IsFor job.now line.tally }
+        ensures ok { OnOk result (IsWaitingFor job.now self.old
+            → Goes job.now (waits self.old) (group_of line.entry)
             (waiting_group self.new) out.old.items out.new.items) }
         ensures some { OnOk result (waits self.new ≡ Some (waiting_group self.new)) }
-        ensures waits { OnOk result (IsWaitingFor job.now self.new) }
+        ensures waits { OnOk result (IsWaitingFor job.now self.old → IsWaitingFor job.now self.new) }
         ensures err { IfErr result (TakesNot (waits self.old) (group_of line.entry)) }
     {
         if self.takes(job, line) {
@@ -122,9 +122,10 @@ impl Waiting {
 
     /// Writes what waits. Nothing waits then.
     pub fn put(&mut self, job: &Job, out: &mut Vec<u8>) -> Result<(), AllocError>
-        requires { IsWaitingFor job.now self.old }
-        ensures written { OnOk result (out.new.items ≡ out.old.items ++ texts job.now (with_waiting (waits self.old) [])) }
-        ensures waits { OnOk result ((waits self.new ≡ None) × IsWaitingFor job.now self.new) }
+        ensures written { OnOk result (IsWaitingFor job.now self.old
+            → out.new.items ≡ out.old.items ++ texts job.now (with_waiting (waits self.old) [])) }
+        ensures none { OnOk result (waits self.new ≡ None) }
+        ensures waits { OnOk result (IsWaitingFor job.now self.old → IsWaitingFor job.now self.new) }
     {
         if !self.some {
             return Ok(());

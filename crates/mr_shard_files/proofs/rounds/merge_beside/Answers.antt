@@ -1,6 +1,5 @@
 use Rattle.std.proofs.Common.{◌≡◌, ◌++◌, length, subst, sym}
 use Rattle.std.proofs.lemmas.Result.{IfErr-weaker, IfOk-at_ok, IfOk-weaker}
-use Rattle.mr_shards.specs.Views.{IsWaitingFor}
 use Rattle.mr_shard_files.specs.Streams.{AreAllBeside, AreNextWith, AreTaken, MergesHeld}
 use Rattle.mr_shard_files.proofs.TailLemmas.{next_both_with}
 use Rattle.mr_shard_files.proofs.RoundLemmas.{stopped_all}
@@ -9,8 +8,8 @@ use Rattle.mr_shard_files.proofs.rounds.merge_beside.Goals as goal
 pub returns-clause-kept : goal.returns-clause-kept
 returns-clause-kept g c =
     IfOk-weaker c.all_beside.result (AreAllBeside c.join-first.result.0 c.join-first.result.1) _
-    (λ b k. subst (λ m. (length m.held ≡ length c.args.merger.held) × IsWaitingFor c.args.job.now m.waiting) (sym k.merger)
-    (IfOk-at_ok (λ s. (length s.merger.held ≡ length c.args.merger.held) × IsWaitingFor c.args.job.now s.merger.waiting) k.back_is c.join-first.ensures.second.0)) c.all_beside.ensures.ok
+    (λ b k. subst (λ m. length m.held ≡ length c.args.merger.held) (sym k.merger)
+    (IfOk-at_ok (λ s. length s.merger.held ≡ length c.args.merger.held) k.back_is c.join-first.ensures.second.0)) c.all_beside.ensures.ok
 
 pub returns-clause-ok : goal.returns-clause-ok
 returns-clause-ok g c =

@@ -1,6 +1,5 @@
 use Rattle.std.proofs.Common.{◌≡◌, ◌∙◌, Ok, length, subst}
 use Rattle.std.proofs.lemmas.Result.{IfErr-weaker, IfOk-at_ok, IfOk-weaker}
-use Rattle.mr_shards.specs.Views.{IsWaitingFor}
 use Rattle.mr_shard_files.specs.Streams.{AreTaken, IsNotBeside, MergesHeld}
 use Rattle.mr_shard_files.proofs.TailLemmas.{next_with}
 use Rattle.mr_shard_files.proofs.RoundLemmas.{stopped_beside}
@@ -9,7 +8,7 @@ use Rattle.mr_shard_files.proofs.rounds.merge_beside_one.Goals as goal
 pub returns-clause-kept : goal.returns-clause-kept
 returns-clause-kept g c =
     IfOk-weaker c.with_digests.result (λ b. c.join-digests.result.1 ≡ Ok b.merger) _
-    (λ b is. IfOk-at_ok (λ m. (length m.held ≡ length c.args.merger.held) × IsWaitingFor c.args.job.now m.waiting) is c.join-digests.ensures.second.0) c.with_digests.ensures.merger
+    (λ b is. IfOk-at_ok (λ m. length m.held ≡ length c.args.merger.held) is c.join-digests.ensures.second.0) c.with_digests.ensures.merger
 
 pub returns-clause-ok : goal.returns-clause-ok
 returns-clause-ok g c =

@@ -4,8 +4,8 @@ use Rattle.mr_shard_files.specs.Streams.{AreWindowsOf}
 use Rattle.mr_shard_files.proofs.ShownLemmas.{shown_count}
 use Rattle.mr_shard_files.proofs.rounds.merge_held.Goals as goal
 
-pub merge_round-requires-clause-count : goal.merge_round-requires-clause-count
-merge_round-requires-clause-count g c = ap length c.as_slice.ensures.value ∙ shown_count c.args.parts.now c.in_ok-windows.windows.items c.in_ok-windows.ensures ∙ c.requires.count
+pub merge_round-requires : goal.merge_round-requires
+merge_round-requires g c = ap length c.as_slice.ensures.value ∙ shown_count c.args.parts.now c.in_ok-windows.windows.items c.in_ok-windows.ensures ∙ c.requires
 
 pub returns-clause-err : goal.returns-clause-err
 returns-clause-err g c =

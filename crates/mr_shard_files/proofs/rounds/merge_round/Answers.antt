@@ -13,8 +13,8 @@ returns-in_err-fill_all-clause-err g c =
     let p = err_from_is_err_and c.from_residual.result c.from_residual.ensures.1 in
     rw p.1 (rw p.2 (inr (inl c.in_err-fill_all.ensures.err)))
 
-pub merge_beside-requires-clause-count : goal.merge_beside-requires-clause-count
-merge_beside-requires-clause-count g c = all_length (λ _ o n. Moves g.R.CountedRead.remaining g.R.CountedRead.can_fail [] o n) c.args.parts.now c.args.parts.now c.fill_all.new.parts c.in_ok-fill_all.ensures.ok ∙ c.requires.count
+pub merge_beside-requires : goal.merge_beside-requires
+merge_beside-requires g c = all_length (λ _ o n. Moves g.R.CountedRead.remaining g.R.CountedRead.can_fail [] o n) c.args.parts.now c.args.parts.now c.fill_all.new.parts c.in_ok-fill_all.ensures.ok ∙ c.requires
 
 pub returns-in_err-merger-clause-err : goal.returns-in_err-merger-clause-err
 returns-in_err-merger-clause-err g c =

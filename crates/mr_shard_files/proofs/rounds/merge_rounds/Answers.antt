@@ -20,7 +20,6 @@ loop-init g c =
     let files = c.args.files.now in
     record {
       count = sym c.requires.count ∙ sym c.in_ok-merger.ensures.shards;
-      kind = c.in_ok-merger.ensures.kind c.args.job.now;
       passed = nothings parts;
       moved = all_none remaining can_fail parts;
       written = [];
@@ -54,7 +53,7 @@ returns-then-are_done-clause-ok g c =
       record {
         passed = c.loop.invariant.passed;
         moved = all_filled remaining can_fail c.loop.invariant.passed c.args.parts.now parts kept parts c.loop.invariant.moved fills;
-        count = c.in_ok-merger-2.ensures.kept.0 ∙ sym c.loop.invariant.count ∙ all_length (Moves remaining can_fail) c.loop.invariant.passed c.args.parts.now parts c.loop.invariant.moved;
+        count = c.in_ok-merger-2.ensures.kept ∙ sym c.loop.invariant.count ∙ all_length (Moves remaining can_fail) c.loop.invariant.passed c.args.parts.now parts c.loop.invariant.moved;
         merged = last_round remaining can_fail c.args.job.now c.args.files.now c.loop.invariant.passed parts parts c.loop.merger next written
             c.loop.invariant.stands kept fills c.in_ok-merger-2.ensures.ok (sym c.are_done.ensures ∙ c.if-are_done.true);
       },
@@ -81,8 +80,7 @@ loop-preserved g c =
     let fills = c.in_ok-merger-2.ensures.read in
     record {
       count = all_length (λ k o n. Moves remaining can_fail (take k o.held) o n) next.cuts kept after passes ∙ all_length (λ _ o n. Moves remaining can_fail [] o n) parts parts kept fills
-          ∙ held.count ∙ sym c.in_ok-merger-2.ensures.kept.0;
-      kind = c.in_ok-merger-2.ensures.kept.1;
+          ∙ held.count ∙ sym c.in_ok-merger-2.ensures.kept;
       passed = grown held.passed (fronts next.cuts kept);
       moved = all_passed remaining can_fail held.passed initial kept after next.cuts (all_filled remaining can_fail held.passed initial parts kept parts held.moved fills) passes;
       written = held.written ++ next.text;

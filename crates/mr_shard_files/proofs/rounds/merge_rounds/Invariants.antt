@@ -1,5 +1,4 @@
 use Rattle.std.proofs.Common.{◌≡◌, ℕ, List, length}
-use Rattle.mr_shards.specs.Views.{IsWaitingFor}
 use Rattle.mr_shard_files.specs.Made.{HasWritten}
 use Rattle.mr_shard_files.specs.Streams.{AllAre, Moves}
 use Rattle.mr_shard_files.proofs.RoundLemmas.{Stands}
@@ -8,7 +7,6 @@ use Rattle.mr_shard_files.proofs.rounds.merge_rounds.Given as goal
 abbrev pub invariant-loop : goal.invariant-loop
 invariant-loop g l = record {
   count : length l.parts ≡ length l.merger.held;
-  kind : IsWaitingFor l.job l.merger.waiting;
   passed : List (List ℕ);
   moved : AllAre (Moves g.R.CountedRead.remaining g.R.CountedRead.can_fail) passed l.initial.parts l.parts;
   written : List ℕ;

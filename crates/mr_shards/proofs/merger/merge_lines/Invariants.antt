@@ -9,8 +9,8 @@ abbrev pub invariant-loop-at : goal.invariant-loop-at
 invariant-loop-at l = record {
   heads : AreHeads l.job l.cursors.items;
   further : AreFurther l.fn.cursors.items l.cursors.items;
-  kind : IsWaitingFor l.job l.waiting;
-  goes : Goes l.job l.fn.cursors.items l.cursors.items (waits l.fn.waiting) (waits l.waiting) l.out.items;
+  kind : IsWaitingFor l.job l.fn.waiting → IsWaitingFor l.job l.waiting;
+  goes : IsWaitingFor l.job l.fn.waiting → Goes l.job l.fn.cursors.items l.cursors.items (waits l.fn.waiting) (waits l.waiting) l.out.items;
   behind : AreBehind l.last l.cursors.items;
 }
 

@@ -52,9 +52,6 @@ merge_lines-requires-clause-heads c =
     open-heads c.args.job.now c.as_slice.result.now c.args.windows.now c.in-Some.cursors.items
     (opened c.args.job.now c.as_slice.result.now c.as_slice.result.now c.args.windows.now c.in_ok-cursors.field-0 c.in-Some.cursors refl c.in-Some.is c.in_ok-cursors.ensures.some)
 
-pub merge_lines-requires-clause-waits : goal.merge_lines-requires-clause-waits
-merge_lines-requires-clause-waits c = subst (IsWaitingFor c.args.job.now) (sym (ap (λ (s : Standing). s.waiting) c.self.view_is)) c.requires.kind
-
 pub returns-in_err-merge_lines-clause-err : goal.returns-in_err-merge_lines-clause-err
 returns-in_err-merge_lines-clause-err c =
     let job = c.args.job.now in
@@ -67,8 +64,8 @@ returns-in_err-merge_lines-clause-err c =
     c.from_residual-in_err-merge_lines.result c.in_err-merge_lines.field-0.0
     (err_from_is_err_and c.from_residual-in_err-merge_lines.result c.from_residual-in_err-merge_lines.ensures.1)
     (λ rs text a v.
-    (let g = (going-opened job rs ws cs text m v o (sym c.requires.count) a).0 in
-    c.in_err-merge_lines.ensures.err (outputs_of rs) (mores rs ws v) text
+    (let g = (going-opened job rs ws cs text m v o (sym c.requires) a).0 in
+    c.in_err-merge_lines.ensures.err (subst (IsWaitingFor job) (sym (ap (λ (s : Standing). s.waiting) c.self.view_is)) a.kind) (outputs_of rs) (mores rs ws v) text
     (subst (λ (w : Waits). IsGoing job (outputs_of rs) (mores rs ws v) cs (waits w) text) (sym (ap (λ (s : Standing). s.waiting) c.self.view_is)) g)))
 
 -- how many cursors there are
@@ -81,7 +78,7 @@ pub returns-clause-shards : goal.returns-clause-shards
 returns-clause-shards c =
     let o = opened c.args.job.now c.as_slice.result.now c.as_slice.result.now c.args.windows.now c.in_ok-cursors.field-0 c.in-Some.cursors refl c.in-Some.is c.in_ok-cursors.ensures.some in
     ap length c.in_ok-all_held.ensures ∙ length-map c.as_slice-3.result.now (λ (q : Cursor). q.held) ∙ ap length c.as_slice-3.ensures.value
-    ∙ sym (further-count c.in-Some.cursors.items c.merge_lines.new.cursors.items c.in_ok-merge_lines.ensures.further) ∙ o.0 ∙ c.requires.count
+    ∙ sym (further-count c.in-Some.cursors.items c.merge_lines.new.cursors.items c.in_ok-merge_lines.ensures.further) ∙ o.0 ∙ c.requires
 
 pub returns-clause-goes : goal.returns-clause-goes
 returns-clause-goes c = λ more some.
@@ -98,14 +95,6 @@ returns-clause-goes c = λ more some.
       | inr dry ↦ subst (OneGoes ws) (sym cuts) (dry-goes ws cs ds bytes further dry)
     ]
 
-pub returns-clause-kind : goal.returns-clause-kind
-returns-clause-kind c =
-    let job = c.args.job.now in
-    subst (IsWaitingFor job) (sym c.waiting-3.view_is) (elim c.if-are_ended.branch [
-      | then-are_ended+in_ok-put w ↦ subst (IsWaitingFor job) (sym w.waiting-is) w.in_ok-put.ensures.waits.1
-      | else-are_ended w ↦ subst (IsWaitingFor job) (sym w.waiting-is) c.in_ok-merge_lines.ensures.waits
-    ])
-
 pub returns-clause-ok : goal.returns-clause-ok
 returns-clause-ok c =
     let job = c.args.job.now in
@@ -115,18 +104,20 @@ returns-clause-ok c =
     let cs = c.in-Some.cursors.items in
     let ds = c.merge_lines.new.cursors.items in
     let o = opened job c.as_slice.result.now m.held ws c.in_ok-cursors.field-0 c.in-Some.cursors held c.in-Some.is c.in_ok-cursors.ensures.some in
-    merges job ws m _ cs ds (waits c.merge_lines.new.waiting) c.merge_lines.new.out.items o (sym c.requires.count) c.in_ok-merge_lines.ensures.further c.in_ok-merge_lines.ensures.heads
-    (subst (λ (w : Waits). Goes job cs ds (waits w) (waits c.merge_lines.new.waiting) c.merge_lines.new.out.items) (ap (λ (s : Standing). s.waiting) c.self.view_is) c.in_ok-merge_lines.ensures.goes)
-    (subst (IsWaitingFor job) (sym c.waiting-3.view_is) (elim c.if-are_ended.branch [
-      | then-are_ended+in_ok-put w ↦ subst (IsWaitingFor job) (sym w.waiting-is) w.in_ok-put.ensures.waits.1
-      | else-are_ended w ↦ subst (IsWaitingFor job) (sym w.waiting-is) c.in_ok-merge_lines.ensures.waits
+    let same = ap (λ (s : Standing). s.waiting) c.self.view_is in
+    let lines : IsWaitingFor job m.waiting → IsWaitingFor job c.merge_lines.new.waiting = λ k. c.in_ok-merge_lines.ensures.waits (subst (IsWaitingFor job) (sym same) k) in
+    merges job ws m _ cs ds (waits c.merge_lines.new.waiting) c.merge_lines.new.out.items o (sym c.requires) c.in_ok-merge_lines.ensures.further c.in_ok-merge_lines.ensures.heads
+    (λ k. subst (λ (w : Waits). Goes job cs ds (waits w) (waits c.merge_lines.new.waiting) c.merge_lines.new.out.items) same (c.in_ok-merge_lines.ensures.goes (subst (IsWaitingFor job) (sym same) k)))
+    (λ k. subst (IsWaitingFor job) (sym c.waiting-3.view_is) (elim c.if-are_ended.branch [
+      | then-are_ended+in_ok-put w ↦ subst (IsWaitingFor job) (sym w.waiting-is) (w.in_ok-put.ensures.waits (lines k))
+      | else-are_ended w ↦ subst (IsWaitingFor job) (sym w.waiting-is) (lines k)
     ]))
     (c.in_ok-all_held.ensures ∙ ap helds c.as_slice-3.ensures.value) (c.in_ok-cuts_of.ensures ∙ ap (cuts_at ws) c.as_slice-4.ensures.value) c.in_ok-merge_lines.ensures.ends
-    (elim c.if-are_ended.branch [
+    (λ k. elim c.if-are_ended.branch [
       | then-are_ended+in_ok-put w ↦ inl (
         ap are_ended (sym c.as_slice-2.ensures.value) ∙ sym c.are_ended.ensures ∙ w.if-are_ended.true,
-        ap waits (c.waiting-3.view_is ∙ w.waiting-is) ∙ w.in_ok-put.ensures.waits.0,
-        ap (λ (v : Vec ℕ Global). v.items) w.text-is ∙ w.in_ok-put.ensures.written,
+        ap waits (c.waiting-3.view_is ∙ w.waiting-is) ∙ w.in_ok-put.ensures.none,
+        ap (λ (v : Vec ℕ Global). v.items) w.text-is ∙ w.in_ok-put.ensures.written (lines k),
       )
       | else-are_ended w ↦ inr (
         ap are_ended (sym c.as_slice-2.ensures.value) ∙ sym c.are_ended.ensures ∙ w.if-are_ended.false,

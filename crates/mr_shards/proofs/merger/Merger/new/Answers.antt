@@ -4,10 +4,9 @@ use Rattle.mr_jobs.specs.JobSpec.{JobSpec}
 use Rattle.mr_shards.specs.declared.merger.MergeFault.{MergeFault}
 use Rattle.mr_shards.specs.Portions.{no_shift}
 use Rattle.mr_shards.specs.Refused.{Blames}
-use Rattle.mr_shards.specs.Views.{IsWaitingFor}
 use Rattle.std.proofs.Common.{List}
 use Rattle.mr_shards.specs.Rounds.{AreFresh, Reading, outputs_of}
-use Rattle.mr_shards.proofs.FreshLemmas.{fresh-after, held-count, none-waits, too-far}
+use Rattle.mr_shards.proofs.FreshLemmas.{fresh-after, held-count, too-far}
 use Rattle.mr_shards.proofs.RefusedLemmas.{handed}
 use Rattle.mr_shards.proofs.merger.Merger.new.Goals as goal
 
@@ -22,6 +21,3 @@ returns-clause-shards c = ap length c.in_ok-held_of.ensures.ok ∙ held-count no
 
 pub returns-clause-fresh : goal.returns-clause-fresh
 returns-clause-fresh c = λ job rs a. fresh-after job c.args.files.now rs _ a c.in_ok-held_of.ensures.ok c.new.ensures
-
-pub returns-clause-kind : goal.returns-clause-kind
-returns-clause-kind c = λ job. subst (IsWaitingFor job) (sym c.new.ensures) (none-waits job)
