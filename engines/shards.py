@@ -284,8 +284,10 @@ def attempt_there(run, task):
 
 
 def watch(client, workers, tell, over):
-    """Names the workers that are lost."""
-    while not over.wait(LOOK):
+    """Names the workers that are lost, also those of the last moment."""
+    ended = False
+    while not ended:
+        ended = over.wait(LOOK)
         with contextlib.suppress(Exception):
             now = set(client.nthreads())
             for lost in sorted(workers - now):
@@ -315,7 +317,8 @@ def by_dask(run, tasks, asked, tell, ends):
         tell("the Dask cluster has no worker yet")
     over = threading.Event()
     ends.callback(over.set)
-    threading.Thread(target=watch, args=(client, workers, tell, over), daemon=True).start()
+    watching = threading.Thread(target=watch, args=(client, workers, tell, over), daemon=True)
+    watching.start()
     futures = {client.submit(attempt_there, run, task, pure=False, retries=asked.tries - 1): task[0] for task in tasks}
     for future in as_completed(futures):
         number = futures.pop(future)
@@ -327,6 +330,8 @@ def by_dask(run, tasks, asked, tell, ends):
         if outcome == "refused":
             raise Refused(f"shard {number}: {why}")
         yield number, outcome
+    over.set()
+    watching.join(10 * LOOK)
 
 
 # ---- the whole
