@@ -143,6 +143,19 @@ def cut(room, text):
     return names
 
 
+def explaining(mapred, text, log, rounds, limit, results):
+    """A rare key's records beside GNU grep's lines for it, with -i where the job folds; a line for each job."""
+    lines = []
+    resource = open(log, "rb").read().splitlines()[-1].split(b'"')[1].split(b" ")[1].decode()
+    for job, file, key, fold in (("url", log, resource + "~", []), ("url", log, resource, []), ("words", text, "zyzzyva", ["-i"])):
+        grep = f"grep -F {' '.join(fold)}".strip()
+        rivals = [Rival("mapred explain", [mapred, "explain", "--job", job, "--key", key, file]), Rival(grep, ["env", "LC_ALL=C", "grep", "-a", "-n", "-b", "-F", *fold, "--", key, file], wants=(0, 1))]
+        got = race(f"explain: {job} {key}", os.path.getsize(file), rivals, rounds, limit, results, grep)
+        if got[grep].best and got["mapred explain"].best:
+            lines.append(f"explain {job} {key}: {got['mapred explain'].best / got[grep].best:.2f} x {grep}")
+    return lines
+
+
 def main():
     ask = argparse.ArgumentParser(description=__doc__, formatter_class=argparse.RawDescriptionHelpFormatter)
     ask.add_argument("mapred")
@@ -193,6 +206,8 @@ def main():
     print(f"mapred: {mapred or 'none'}; {it.rounds} rounds; parts {it.parts}; load {os.getloadavg()[0]:.1f} on {os.cpu_count()} processors")
     floor = [Rival("cat FILE | cat > /dev/null", f"cat {text} | cat"), Rival("wc -l", f"wc -l {text}"), Rival("cp", f"cp {text} {room}/copy")]
     race("floor", os.path.getsize(text), floor, it.rounds, it.timeout, results, "cat FILE | cat > /dev/null")
+    if mapred:
+        lines += explaining(mapred, text, log, it.rounds, it.timeout, results)
     for job in it.jobs.split(","):
         files, words, peers, _ = jobs[job]
         size, common = sum(map(os.path.getsize, files)), [*words, "--parts", str(it.parts)]

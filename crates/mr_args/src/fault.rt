@@ -49,6 +49,8 @@ pub enum Fault {
     SameFile(String),
     CannotRead(String),
     CannotWrite(String),
+    /// Standard output takes no more.
+    CannotPrint,
     OutOfMemory,
 }
 
@@ -172,7 +174,7 @@ impl Fault {
         ensures { result ≡ status_of self.now }
     {
         match self {
-            Fault::CannotRead(_) | Fault::CannotWrite(_) => 3,
+            Fault::CannotRead(_) | Fault::CannotWrite(_) | Fault::CannotPrint => 3,
             Fault::OutOfMemory => 4,
             Fault::Shards(fault) | Fault::Verified(fault) => shards_status(fault),
             _ => 2,
@@ -226,6 +228,7 @@ impl fmt::Display for Fault {
             Fault::SameFile(name) => write!(f, "mapred: SameFile {name}\n"),
             Fault::CannotRead(name) => write!(f, "mapred: cannot read {name}\n"),
             Fault::CannotWrite(name) => write!(f, "mapred: cannot write {name}\n"),
+            Fault::CannotPrint => write_told(f, &"cannot write standard output"),
             Fault::OutOfMemory => write_told(f, &"out of memory"),
         }
     }

@@ -23,7 +23,8 @@ pub enum JobKind {
     Index,
 }
 
-/// What `seq`, `run` and `check` share: a job over `files`, with its result in the directory `out`.
+/// What `seq`, `run`, `check` and `explain` share: a job over `files`, with its result in the
+/// directory `out`.
 #[derive(Drop)]
 pub struct Options<'a> {
     pub job: JobKind,
@@ -84,6 +85,19 @@ pub struct MergeOptions<'a> {
     pub verdicts: Vec<&'a str>,
 }
 
+/// Options of `explain`. `skips` is the text of a skip list.
+#[derive(Drop)]
+pub struct ExplainOptions<'a> {
+    pub options: Options<'a>,
+    pub skips: &'a str,
+    /// The key, as an output writes it; without one, records that give nothing are looked for.
+    pub key: Option<&'a str>,
+    /// How many kept records are printed at most, and how many left-out ones.
+    pub limit: u64,
+    /// The directory of the result whose lines of the key are compared.
+    pub result: Option<&'a str>,
+}
+
 /// A command with its options.
 #[derive(Drop)]
 pub enum Subcommand<'a> {
@@ -92,6 +106,7 @@ pub enum Subcommand<'a> {
     Check(CheckOptions<'a>),
     Merge(MergeOptions<'a>),
     Verify(VerifyPlan<'a>),
+    Explain(ExplainOptions<'a>),
 }
 
 fn asks_for_other_job(options: &Options<'_>) -> bool

@@ -1,5 +1,5 @@
 -- The options, as the parsed line has them.
-use Rattle.std.specs.Prelude.{◌≡◌, ◌≢◌, ℕ, ◌<◌, ◌^◌, Bool, true, false, Option, None, Some, List, [], map, option_map, unwrap_or, codes}
+use Rattle.std.specs.Prelude.{◌≡◌, ◌≢◌, ℕ, ◌-◌, ◌<◌, ◌^◌, Bool, true, false, Option, None, Some, List, [], map, option_map, unwrap_or, codes}
 use Rattle.std.specs.Option.{option_map_or}
 use Rattle.std.specs.Str.Parse.{IsNumeral, digits_value, without_leading_plus}
 use Rattle.clap.specs.Matches.{matched_of, raw_values, first_value, one_text}
@@ -9,11 +9,12 @@ use Rattle.mr_certform.specs.declared.version.Version.{Version}
 use Rattle.mr_certform.specs.declared.version.Version.TheVariants.{V1, V2}
 use Rattle.mr_args.specs.declared.request.Options.{Options}
 use Rattle.mr_args.specs.declared.request.CheckOptions.{CheckOptions}
+use Rattle.mr_args.specs.declared.request.ExplainOptions.{ExplainOptions}
 use Rattle.mr_args.specs.declared.request.MergeOptions.{MergeOptions}
 use Rattle.mr_args.specs.declared.request.RunOptions.{RunOptions}
 use Rattle.mr_args.specs.declared.request.SeqOptions.{SeqOptions}
 use Rattle.mr_args.specs.declared.request.Subcommand.{Subcommand}
-use Rattle.mr_args.specs.declared.request.Subcommand.TheVariants.{Seq, Run, Check, Merge, Verify}
+use Rattle.mr_args.specs.declared.request.Subcommand.TheVariants.{Seq, Run, Check, Merge, Verify, Explain}
 use Rattle.mr_args.specs.Asked.{Names}
 use Rattle.mr_shard_files.specs.declared.verifying.VerifyPlan.{VerifyPlan}
 
@@ -26,7 +27,7 @@ abbrev pub IsNumberOf : Option (List ℕ) → ℕ → ℕ → Type 0
 IsNumberOf None none n = n ≡ none
 IsNumberOf (Some text) none n = (WritesNumber (2 ^ 32) text → n ≡ digits_value 10 (without_leading_plus text)) × (¬ WritesNumber (2 ^ 32) text → n ≡ none)
 
--- the place in a file that the text writes, in 64 bits; none without one
+-- the number of 64 bits that the text writes; none without one
 abbrev pub IsByteOf : Option (List ℕ) → Option ℕ → Type 0
 IsByteOf None n = n ≡ None
 IsByteOf (Some text) n = (WritesNumber (2 ^ 64) text → n ≡ Some (digits_value 10 (without_leading_plus text))) × (¬ WritesNumber (2 ^ 64) text → n ≡ None)
@@ -94,6 +95,14 @@ pub record IsVerifyPlanOf (found : Found) (o : VerifyPlan) : Type 0 where
   pub out : option_map (λ s. s.now) o.out ≡ first_value found (codes "out")
   pub inputs : IsFlagOf (one_text found (codes "with-inputs")) o.inputs
 
+-- the same of the evidence behind a count
+pub record AreExplainOptionsOf (found : Found) (o : ExplainOptions) : Type 0 where
+  pub options : AreOptionsOf found o.options
+  pub skips : o.skips.now ≡ unwrap_or (first_value found (codes "skips")) []
+  pub key : option_map (λ s. s.now) o.key ≡ first_value found (codes "key")
+  pub limit : (n : Option ℕ) × IsByteOf (one_text found (codes "limit")) n × (o.limit ≡ unwrap_or n (2 ^ 64 - 1))
+  pub result : option_map (λ s. s.now) o.result ≡ first_value found (codes "out")
+
 -- the subcommand is that of its own name, and its options are those of its matches
 abbrev pub IsAskedBy : Option (List ℕ) → Option (List Row) → Subcommand → Type 0
 IsAskedBy name rows (Seq o) = (name ≡ Some (codes "seq")) × ((found : Found) × (rows ≡ Some (rows_of found)) × AreSeqOptionsOf found o)
@@ -101,3 +110,4 @@ IsAskedBy name rows (Run o) = (name ≡ Some (codes "run")) × ((found : Found) 
 IsAskedBy name rows (Check o) = (name ≡ Some (codes "check")) × ((found : Found) × (rows ≡ Some (rows_of found)) × AreCheckOptionsOf found o)
 IsAskedBy name rows (Merge o) = (name ≡ Some (codes "merge")) × ((found : Found) × (rows ≡ Some (rows_of found)) × AreMergeOptionsOf found o)
 IsAskedBy name rows (Verify o) = (name ≡ Some (codes "verify")) × ((found : Found) × (rows ≡ Some (rows_of found)) × IsVerifyPlanOf found o)
+IsAskedBy name rows (Explain o) = (name ≡ Some (codes "explain")) × ((found : Found) × (rows ≡ Some (rows_of found)) × AreExplainOptionsOf found o)

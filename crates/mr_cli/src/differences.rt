@@ -1,7 +1,8 @@
 //! How a certificate differs from the request, if the judge reports another job or input.
-use crate::hints::run_cure;
+use crate::hints::{evidence_cure, run_cure};
 use mr_args::{Options, Subcommand, request_of};
 use mr_certform::{Item, Walker};
+use mr_commands::CommandOutput;
 use mr_files::{Inspect, PathKind, Store, certificate_name, read_file};
 use mr_jobs::Request;
 use std::alloc::{AllocError, Global};
@@ -199,15 +200,17 @@ pub fn verdict_hint<S: Store + Inspect>(
     store: &S,
     alloc: Global,
     asked: &Subcommand<'_>,
-    said: &str,
+    said: &CommandOutput,
 ) -> Result<String, AllocError> {
+    let text = said.text.as_str();
     match asked {
-        Subcommand::Check(asked) => check_hint(store, alloc, &asked.options, said),
+        Subcommand::Check(asked) => check_hint(store, alloc, &asked.options, text),
         Subcommand::Seq(_) | Subcommand::Merge(_) | Subcommand::Verify(_) => {
             Ok(String::new(alloc))
         }
+        Subcommand::Explain(asked) => { String::from_str(alloc, evidence_cure(asked, said.status)) }
         Subcommand::Run(asked) => {
-            String::from_str(alloc, run_cure(said, asked.scratch.is_some()))
+            String::from_str(alloc, run_cure(text, asked.scratch.is_some()))
         }
     }
 }

@@ -6,9 +6,10 @@ use crate::differences::verdict_hint;
 use crate::failure::{Failure, escape};
 use crate::nearest::line_hint;
 use crate::options::{command, subcommand_of};
+use crate::printing::Printer;
 use crate::program::{answer, finish};
 use crate::progress::{ProgressLine, notes};
-use mr_args::{Fault, Subcommand};
+use mr_args::{ExplainOptions, Fault, JobKind, Subcommand};
 use mr_bytes::Progress;
 use mr_commands::{CommandOutput, Machine};
 use mr_files::{Inspect, Store};
@@ -83,7 +84,7 @@ fn print_answer<F: Store + Inspect, C: Clock, O: Write, E: Write>(
 ) -> u8 {
     let Terminal { out, err, .. } = terminal;
     let hint = match (&answered, asked) {
-        (Ok(said), Some(asked)) => verdict_hint(files, alloc, asked, said.text.as_str()),
+        (Ok(said), Some(asked)) => verdict_hint(files, alloc, asked, said),
         (Err(Failure::Command(Fault::InsideALine { file, byte })), Some(asked)) => range_hint(
             files, alloc, asked, *file, *byte,
         ),
@@ -130,7 +131,13 @@ pub fn run_at_terminal<
             show(alloc, terminal.err, line.as_bytes(), false);
         }
     }
-    let answered = answer(machine, files, words.as_slice(), watch);
+    let answered = answer(
+        machine,
+        files,
+        words.as_slice(),
+        watch,
+        &mut Printer::new(terminal.out),
+    );
     terminal.progress.wipe();
     print_answer(files, alloc, &asked, answered, terminal)
 }
@@ -256,7 +263,7 @@ fn remedy(fault: &Fault) -> &'static str {
         Fault::Shards(fault) | Fault::Verified(fault) => shards_cure(fault),
         Fault::SameFile(_) =>
             "this file is read, or written under another name, and would be lost: give another name",
-        Fault::CannotRead(_) | Fault::CannotWrite(_) => "",
+        Fault::CannotRead(_) | Fault::CannotWrite(_) | Fault::CannotPrint => "",
         Fault::OutOfMemory => MEMORY,
     }
 }
@@ -287,6 +294,7 @@ fn range_hint<S: Store>(
         Subcommand::Seq(asked) => &asked.options,
         Subcommand::Run(asked) => &asked.options,
         Subcommand::Check(asked) => &asked.options,
+        Subcommand::Explain(asked) => &asked.options,
         Subcommand::Merge(_) | Subcommand::Verify(_) => return Ok(String::new(alloc)),
     };
     match options.files.as_slice().get(file) {
@@ -306,5 +314,27 @@ pub(crate) fn run_cure(said: &str, in_files: bool) -> &'static str {
             "a task has had --attempts A attempts, 8 where it isn't given, and none completed it",
         "failed: NoWorkers\n" => "the script loses every worker: --workers W makes more of them",
         _ => "",
+    }
+}
+
+/// What helps if no output can write the key, or if the result differs; empty otherwise.
+pub(crate) fn evidence_cure(asked: &ExplainOptions<'_>, status: u8) -> &'static str {
+    let folds = match asked.options.job {
+        JobKind::Words | JobKind::Index => !asked.options.keep_case,
+        JobKind::Grep | JobKind::Url => false,
+    };
+    if folds
+        && asked
+            .key
+            .unwrap_or("")
+            .bytes()
+            .any(|byte| byte.is_ascii_uppercase())
+    {
+        return "without --keep-case keys have no upper-case letters: give --key as the output writes it";
+    }
+    match status {
+        0 => "",
+        _ =>
+            "give the options and files that the result was made with, --parts, --by-host and --skips too",
     }
 }

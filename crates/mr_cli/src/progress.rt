@@ -207,7 +207,7 @@ impl<'a, L: Inspect> NoteList<'a, L> {
                 self.note_directory(asked.out)?;
                 self.note_result(asked.out, verdict.as_str())
             }
-            Subcommand::Verify(_) => Ok(()),
+            Subcommand::Verify(_) | Subcommand::Explain(_) => Ok(()),
         }
     }
 }
@@ -218,7 +218,7 @@ fn asks_for_parts(asked: &Subcommand<'_>) -> bool {
         Subcommand::Seq(asked) => &asked.options,
         Subcommand::Run(asked) => &asked.options,
         Subcommand::Check(asked) => &asked.options,
-        Subcommand::Merge(_) | Subcommand::Verify(_) => return true,
+        Subcommand::Merge(_) | Subcommand::Verify(_) | Subcommand::Explain(_) => return true,
     };
     0 < options.parts && options.parts as usize <= MOST_PARTS
 }

@@ -11,7 +11,6 @@ use Rattle.mr_files.specs.Stretches.{AreTaken, AreTakenFrom, IsUntaken, Stretch}
 use Rattle.mr_files.specs.declared.store.FileFault.TheVariants as file
 use Rattle.mr_files.specs.declared.ranges.RangeFault.{RangeFault}
 use Rattle.mr_files.specs.declared.ranges.RangeFault.TheVariants as range
-use Rattle.mr_args.specs.declared.fault.Fault.{Fault}
 use Rattle.mr_args.specs.declared.fault.Fault.TheVariants.{Input}
 use Rattle.mr_commands.specs.Inputs.{IsUnreadInput, told_of_unread}
 

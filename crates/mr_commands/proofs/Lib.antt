@@ -6,3 +6,5 @@ pub mod JudgingRefused
 pub mod Noted
 pub mod Told
 pub mod Streamed
+pub mod ExplainLemmas
+pub mod FeedLemmas

@@ -1,5 +1,5 @@
 -- What the program says, and why it says nothing.
-use Rattle.std.proofs.Common.{◌≡◌, ℕ, List, Result, Ok, Err, inl, inr, ap, sym, ◌∙◌, subst, length, [], ◌∷◌, ◌++◌}
+use Rattle.std.proofs.Common.{◌≡◌, ℕ, List, Result, Ok, Err, inr, ap, sym, ◌∙◌, subst, length, [], ◌∷◌, ◌++◌}
 use Rattle.std.proofs.lemmas.List.{length-map}
 use Rattle.std.specs.Prelude.{Vec}
 use Rattle.std.specs.Global.{Global}
@@ -9,6 +9,7 @@ use Rattle.mr_sequential.specs.Emitted.{emitted}
 use Rattle.mr_files.specs.Refusals.{IsWriteRefusal}
 use Rattle.mr_files.specs.declared.store.FileFault.{FileFault}
 use Rattle.mr_args.specs.declared.fault.Fault.{Fault}
+use Rattle.mr_args.specs.declared.request.Options.{Options}
 use Rattle.mr_args.specs.declared.request.SeqOptions.{SeqOptions}
 use Rattle.mr_jobs.specs.JobSpec.{RequestSpec}
 use Rattle.mr_files.specs.Holding.{ChangesAmong, Faulty, Holding, Stored}
@@ -21,35 +22,37 @@ use Rattle.mr_commands.specs.Outcomes.{IsSequentialResult, done_line}
 use Rattle.mr_args.specs.Asked.{request_asked}
 use Rattle.mr_commands.specs.Answers.{AnswersSeq, IsRunRefusal, IsWorkRefusal, IsSeqRefusal, WorksOut, written_by_seq}
 use Rattle.mr_commands.proofs.JudgingRefused.{stopped_as}
-use Rattle.mr_commands.specs.Inputs.{IsAsked, IsInput, IsInputRefusal}
+use Rattle.mr_commands.specs.Inputs.{IsAsked, IsInputRefusal, IsRunInput, IsRunInputRefusal}
+use Rattle.mr_commands.specs.declared.input.RunInput.{RunInput}
 use Rattle.mr_commands.specs.Named.{input_names, stretch_of}
 use Rattle.mr_args.specs.Statuses.{ReportsFile}
 use Rattle.mr_bytes.specs.declared.RecordName.{RecordName}
 use Rattle.mr_args.specs.SkipList.{SpellsNames}
 
-pub work_input_stage : (holds : Stored) (unreadable : Faulty) (known : Known) (o : SeqOptions) (skips : List RecordName) (request : RequestSpec) (e : Fault)
-    → request ≡ request_asked o.options → IsAsked o.options → SpellsNames o.skips.now skips
-    → IsInputRefusal holds unreadable known (stretch_of o.options) (input_names o.options) (written_by_seq o) request.split e → IsWorkRefusal holds unreadable known o e
-work_input_stage holds unreadable known o skips request e r a s h =
-    inr (inr (inl (a, (skips, s), subst (λ (s : ℕ). IsInputRefusal holds unreadable known (stretch_of o.options) (input_names o.options) (written_by_seq o) s e) (ap (λ (v : RequestSpec). v.split) r) h)))
+pub run_input_stage : (holds : Stored) (unreadable : Faulty) (known : Known) (o : Options) (text : List ℕ) (written : List (List ℕ)) (skips : List RecordName) (request : RequestSpec) (e : Fault)
+    → request ≡ request_asked o → IsAsked o → SpellsNames text skips
+    → IsInputRefusal holds unreadable known (stretch_of o) (input_names o) written request.split e → IsRunInputRefusal holds unreadable known o text written e
+run_input_stage holds unreadable known o text written skips request e r a s h =
+    inr (inr (a, (skips, s), subst (λ (s : ℕ). IsInputRefusal holds unreadable known (stretch_of o) (input_names o) written s e) (ap (λ (v : RequestSpec). v.split) r) h))
 
-pub work_run_stage : (holds : Stored) (unreadable : Faulty) (known : Known) (o : SeqOptions) (skips : List RecordName) (files : List (List ℕ)) (request : RequestSpec) (e : Fault)
-    → request ≡ request_asked o.options → IsAsked o.options → SpellsNames o.skips.now skips → IsInput holds (stretch_of o.options) request.split files
-    → AreApart known (input_names o.options) (written_by_seq o) → IsRunRefusal request files skips e → IsWorkRefusal holds unreadable known o e
-work_run_stage holds unreadable known o skips files request e r a s i apart h =
-    inr (inr (inr (a, (files, skips, subst (λ (s : ℕ). IsInput holds (stretch_of o.options) s files) (ap (λ (v : RequestSpec). v.split) r) i, apart, s, subst (λ (v : RequestSpec). IsRunRefusal v files skips e) r h))))
+-- what a job runs on is tested but for the list over the input
+pub work_run_stage : (holds : Stored) (unreadable : Faulty) (known : Known) (o : Options) (text : List ℕ) (written : List (List ℕ)) (run : RunInput) (e : Fault)
+    → IsRunInput holds o text run → AreApart known (input_names o) written → IsRunRefusal run.request run.input run.skips.items e → IsWorkRefusal holds unreadable known o text written e
+work_run_stage holds unreadable known o text written run e i apart h =
+    inr (i.asked, (run.input, run.skips.items, i.input, apart, i.spelled, subst (λ (v : RequestSpec). IsRunRefusal v run.input run.skips.items e) i.request h))
 
-pub works_out : (holds : Stored) (known : Known) (o : SeqOptions) (skips : List RecordName) (files outputs : List (List ℕ)) (bytes line : List ℕ) (request : RequestSpec)
-    → request ≡ request_asked o.options → SpellsNames o.skips.now skips → IsInput holds (stretch_of o.options) request.split files → AreApart known (input_names o.options) (written_by_seq o)
-    → IsSequentialResult o.version request files skips outputs bytes → line ≡ done_line request.parts (length (emitted request.job request.split files skips)) (length skips) → WorksOut holds known o outputs bytes line
-works_out holds known o skips files outputs bytes line request r s i apart h l = record {
-  files = files;
-  names = skips;
-  input = subst (λ (s : ℕ). IsInput holds (stretch_of o.options) s files) (ap (λ (v : RequestSpec). v.split) r) i;
+pub works_out : (holds : Stored) (known : Known) (o : SeqOptions) (run : RunInput) (outputs : List (List ℕ)) (bytes line : List ℕ)
+    → IsRunInput holds o.options o.skips.now run → AreApart known (input_names o.options) (written_by_seq o)
+    → IsSequentialResult o.version run.request run.input run.skips.items outputs bytes
+    → line ≡ done_line run.request.parts (length (emitted run.request.job run.request.split run.input run.skips.items)) (length run.skips.items) → WorksOut holds known o outputs bytes line
+works_out holds known o run outputs bytes line i apart h l = record {
+  files = run.input;
+  names = run.skips.items;
+  input = i.input;
   apart = apart;
-  spelled = s;
-  result = subst (λ (v : RequestSpec). IsSequentialResult o.version v files skips outputs bytes) r h;
-  said = subst (λ (v : RequestSpec). line ≡ done_line v.parts (length (emitted v.job v.split files skips)) (length skips)) r l;
+  spelled = i.spelled;
+  result = subst (λ (v : RequestSpec). IsSequentialResult o.version v run.input run.skips.items outputs bytes) i.request h;
+  said = subst (λ (v : RequestSpec). line ≡ done_line v.parts (length (emitted v.job v.split run.input run.skips.items)) (length run.skips.items)) i.request l;
 }
 
 pub both_ok : {W E : Type 0} (r : Result W E) (P Q R : W → Type 0) → ((w : W) → P w → Q w → R w) → IfOk r P → IfOk r Q → IfOk r R

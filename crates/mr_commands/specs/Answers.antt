@@ -8,10 +8,11 @@ use Rattle.mr_files.specs.Holding.{ChangesAmong, Faulty, Holding, Stored}
 use Rattle.mr_files.specs.Identities.{AreApart, Known}
 use Rattle.mr_files.specs.Names.{part_names, name_of_certificate, result_names}
 use Rattle.mr_args.specs.declared.fault.Fault.{Fault}
-use Rattle.mr_args.specs.declared.fault.Fault.TheVariants.{BadSkipList, Run, OutOfMemory}
+use Rattle.mr_args.specs.declared.fault.Fault.TheVariants.{Run, OutOfMemory}
+use Rattle.mr_args.specs.declared.request.Options.{Options}
 use Rattle.mr_args.specs.declared.request.SeqOptions.{SeqOptions}
-use Rattle.mr_args.specs.Asked.{IsRequestRefusal, request_asked}
-use Rattle.mr_commands.specs.Inputs.{IsAsked, IsInput, IsInputRefusal, IsStopped}
+use Rattle.mr_args.specs.Asked.{request_asked}
+use Rattle.mr_commands.specs.Inputs.{IsAsked, IsInput, IsRunInputRefusal, IsStopped}
 use Rattle.mr_commands.specs.Named.{input_names, stretch_of}
 use Rattle.mr_commands.specs.Outcomes.{IsSequentialResult, done_line}
 use Rattle.mr_args.specs.SkipList.{SpellsNames}
@@ -36,15 +37,12 @@ IsRunRefusal request files names (Run told) = skip_fault request files names ≡
 IsRunRefusal request files names OutOfMemory = ⊤
 IsRunRefusal request files names fault = ⊥
 
--- why there is no work: the request, then the text of the skip list, then the input, then the list over the input
-abbrev pub IsWorkRefusal : Stored → Faulty → Known → SeqOptions → Fault → Type 0
-IsWorkRefusal holds unreadable known o fault = IsRequestRefusal o.options fault
-    ⊎ (IsAsked o.options × (fault ≡ BadSkipList) × ((names : List RecordName) → ¬ SpellsNames o.skips.now names))
-    ⊎ (IsAsked o.options × ((names : List RecordName) × SpellsNames o.skips.now names)
-    × IsInputRefusal holds unreadable known (stretch_of o.options) (input_names o.options) (written_by_seq o) o.options.split fault)
-    ⊎ (IsAsked o.options × ((files : List (List ℕ)) × (names : List RecordName)
-    × IsInput holds (stretch_of o.options) o.options.split files × AreApart known (input_names o.options) (written_by_seq o) × SpellsNames o.skips.now names
-    × IsRunRefusal (request_asked o.options) files names fault))
+-- why there is no work that writes these files: the request, the text of the skip list, the input, then the list over the input
+abbrev pub IsWorkRefusal : Stored → Faulty → Known → Options → List ℕ → List (List ℕ) → Fault → Type 0
+IsWorkRefusal holds unreadable known o text written fault = IsRunInputRefusal holds unreadable known o text written fault
+    ⊎ (IsAsked o × ((files : List (List ℕ)) × (names : List RecordName)
+    × IsInput holds (stretch_of o) o.split files × AreApart known (input_names o) written × SpellsNames text names
+    × IsRunRefusal (request_asked o) files names fault))
 
 -- what `seq` did where it says that it is done: behind it the result of the sequential execution over what stood under
 -- the names of the input stands under the names of the parts and of the certificate, which is spelled in the version that is
@@ -64,6 +62,6 @@ pub record AnswersSeq (old new : Stored) (known : Known) (o : SeqOptions) (text 
 
 -- why `seq` is not done: there is no work and nothing was written; or the work's result was not all written
 abbrev pub IsSeqRefusal : Stored → Stored → Faulty → Faulty → Known → SeqOptions → Fault → Type 0
-IsSeqRefusal old new unreadable unwritable known o fault = (ChangesAmong old new [] × IsWorkRefusal old unreadable known o fault)
+IsSeqRefusal old new unreadable unwritable known o fault = (ChangesAmong old new [] × IsWorkRefusal old unreadable known o.options o.skips.now (written_by_seq o) fault)
     ⊎ ((outputs : List (List ℕ)) × (bytes line : List ℕ) × WorksOut old known o outputs bytes line
     × IsStopped old new unwritable (result_names o.options.out.now o.options.parts) (outputs ++ bytes ∷ []) fault)

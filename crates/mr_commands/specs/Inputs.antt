@@ -1,5 +1,6 @@
 -- The input of a command, and what can't be written.
-use Rattle.std.specs.Prelude.{ℕ, ◌<◌, ◌≤◌, ◌^◌, Bool, List, length, ⊤, string_bytes}
+use Rattle.std.specs.Prelude.{◌≡◌, ◌⊎◌, ℕ, ◌<◌, ◌≤◌, ◌^◌, Bool, List, length, ⊤, string_bytes}
+use Rattle.mr_bytes.specs.declared.RecordName.{RecordName}
 use Rattle.mr_input.specs.Files.{split_total, total_size}
 use Rattle.mr_input.specs.declared.InputFault.TheVariants.{TooManyFiles, TooLarge}
 use Rattle.mr_files.specs.Holding.{Faulty, Stored}
@@ -10,9 +11,12 @@ use Rattle.mr_files.specs.declared.ranges.RangeFault.{RangeFault}
 use Rattle.mr_files.specs.declared.ranges.RangeFault.TheVariants as range
 use Rattle.mr_files.specs.declared.store.FileFault.TheVariants as file
 use Rattle.mr_args.specs.declared.fault.Fault.{Fault}
-use Rattle.mr_args.specs.declared.fault.Fault.TheVariants.{Input, SameFile, TooManySplits, PastEnd, InsideALine, CannotRead, CannotWrite, OutOfMemory}
+use Rattle.mr_args.specs.declared.fault.Fault.TheVariants.{BadSkipList, Input, SameFile, TooManySplits, PastEnd, InsideALine, CannotRead, CannotWrite, OutOfMemory}
 use Rattle.mr_args.specs.declared.request.Options.{Options}
-use Rattle.mr_args.specs.Asked.{AsksForOtherJob, RangeStands, WithinLimits, request_asked}
+use Rattle.mr_args.specs.Asked.{AsksForOtherJob, IsRequestRefusal, RangeStands, WithinLimits, request_asked}
+use Rattle.mr_args.specs.SkipList.{SpellsNames}
+use Rattle.mr_commands.specs.Named.{input_names, stretch_of}
+use Rattle.mr_commands.specs.declared.input.RunInput.{RunInput}
 
 -- these bytes are taken of the files, within the limits of an input, and the last file ends with them or not
 pub record AreRead (holds : Stored) (s : Stretch) (files : List (List ℕ)) (ends : Bool) : Type 0 where
@@ -63,6 +67,19 @@ pub record IsAsked (o : Options) : Type 0 where
   pub own : ¬ AsksForOtherJob o
   pub within : WithinLimits (request_asked o)
   pub range : RangeStands o
+
+-- a job runs on the request that the options ask for, the list that the text spells, and what stands under the names
+pub record IsRunInput (holds : Stored) (o : Options) (text : List ℕ) (r : RunInput) : Type 0 where
+  pub asked : IsAsked o
+  pub request : r.request ≡ request_asked o
+  pub spelled : SpellsNames text r.skips.items
+  pub input : IsInput holds (stretch_of o) o.split r.input
+
+-- why a job can't begin that writes these files: the request, then the text of the skip list, then the input
+abbrev pub IsRunInputRefusal : Stored → Faulty → Known → Options → List ℕ → List (List ℕ) → Fault → Type 0
+IsRunInputRefusal holds unreadable known o text written fault = IsRequestRefusal o fault
+    ⊎ (IsAsked o × (fault ≡ BadSkipList) × ((names : List RecordName) → ¬ SpellsNames text names))
+    ⊎ (IsAsked o × ((names : List RecordName) × SpellsNames text names) × IsInputRefusal holds unreadable known (stretch_of o) (input_names o) written o.split fault)
 
 -- a file of the result can't be written: those before it stand whole, those behind it as before
 abbrev pub IsStopped : Stored → Stored → Faulty → List (List ℕ) → List (List ℕ) → Fault → Type 0

@@ -4,6 +4,7 @@ pub mod HistoryLines
 pub mod Runs
 pub mod Merges
 pub mod Verifies
+pub mod Explains
 pub mod Commands
 pub mod NoLines
 pub mod YesLines

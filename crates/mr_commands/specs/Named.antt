@@ -1,4 +1,4 @@
--- The names that `check` reads and writes.
+-- The names that commands read and write.
 use Rattle.std.specs.Prelude.{ℕ, ◌∷◌, ◌++◌, Option, None, Some, List, [], map, option_map}
 use Rattle.std.specs.List.{AllByRecursion}
 use Rattle.mr_bytes.specs.Cut.{Lacks}
@@ -19,6 +19,11 @@ stretch_of o = record { names = input_names o; from = o.from; to = o.to }
 abbrev pub named : Option (List ℕ) → List (List ℕ)
 named None = []
 named (Some name) = name ∷ []
+
+-- the names of the files of a result in the directory, if one is written
+abbrev pub names_in : Option (List ℕ) → ℕ → List (List ℕ)
+names_in None parts = []
+names_in (Some dir) parts = result_names dir parts
 
 -- the name that is given for the verdict
 abbrev pub verdict_file : CheckOptions → Option (List ℕ)

@@ -1,7 +1,6 @@
 //! The sequential command, and the choice among all commands.
 ghost use Rattle.std.specs.Prelude.{◌≡◌, ℕ, ◌≤◌, ◌^◌, List, IfOk, IfErr, OnOk, length};
 ghost use Rattle.std.specs.Prelude.{string_bytes};
-ghost use Rattle.mr_bytes.specs.declared.RecordName.{RecordName};
 ghost use Rattle.mr_input.specs.Files.{contents, split_total};
 ghost use Rattle.mr_sequential.specs.Emitted.{emitted};
 ghost use Rattle.mr_commands.specs.Outcomes.{IsSequentialResult, done_line};
@@ -9,29 +8,25 @@ ghost use Rattle.mr_certform.specs.declared.version.Version.{Version};
 ghost use Rattle.mr_certform.specs.Value.{CanSpell, SpellsIn};
 ghost use Rattle.std.specs.List.{AllByRecursion};
 ghost use Rattle.mr_commands.specs.Answers.{AnswersSeq, IsRunRefusal, IsSeqRefusal, IsWorkRefusal};
-ghost use Rattle.mr_commands.specs.Answers.{WorksOut};
-ghost use Rattle.mr_commands.specs.Commands.{Answers, ChangesOwn, IsRefusal};
+ghost use Rattle.mr_commands.specs.Answers.{WorksOut, written_by_seq};
+ghost use Rattle.mr_commands.specs.Commands.{Answers, ChangesOwn, IsRefusal, PrintsOwn};
 ghost use Rattle.mr_files.specs.Holding.{ChangesAmong};
-ghost use Rattle.mr_files.specs.Identities.{AreApart};
 ghost use Rattle.mr_files.specs.Names.{result_names};
-ghost use Rattle.mr_commands.specs.Inputs.{IsInput, IsInputRefusal};
-ghost use Rattle.mr_commands.specs.Named.{input_names, stretch_of};
-ghost use Rattle.mr_args.specs.Asked.{RangeStands};
 
-use crate::input::{FileNames, input_of};
+use crate::explaining::explain;
+use crate::input::{RunInput, run_input_of};
 use crate::judging::check;
 use crate::merging::merge;
 use crate::running::{Machine, run as run_by_workers};
 use crate::texts::{CommandOutput, done_line};
 use crate::verifying::verify;
-use mr_args::{Fault, Options, SeqOptions, Subcommand, request_of, skips_of};
-use mr_bytes::{Progress, RecordName};
+use mr_args::{Fault, SeqOptions, Subcommand};
+use mr_bytes::Progress;
 use mr_certform::{Certificate, Version, VersionedCertificate, text_law};
-use mr_files::{Store, names_of_result, write_files};
-use mr_input::Input;
-use mr_jobs::Request;
+use mr_files::{Store, write_files};
 use mr_sequential::run_watched;
 use mr_spill::Scratch;
+use mr_store::CountedWrite;
 use std::alloc::Global;
 use std::sync::Wait;
 use std::thread::Threads;
@@ -46,53 +41,28 @@ struct Work {
 }
 
 /// Runs the request. It makes the line before a file is written, so nothing fails after the last.
-fn run_request(
-    alloc: Global,
-    request: &Request,
-    input: Input,
-    skips: &[RecordName],
-    watch: &dyn Progress,
-) -> Result<Work, Fault>
-    requires { split_total request.now.split input ≤ 2 ^ 20 }
+fn run_request(alloc: Global, run: RunInput, watch: &dyn Progress) -> Result<Work, Fault>
+    requires { split_total run.request.split run.input ≤ 2 ^ 20 }
     ensures result { IfOk result
         (λ w. (version : Version) (bytes : List ℕ) → SpellsIn version bytes w.certificate
-        → IsSequentialResult version request.now input skips.now (contents w.outputs.items) bytes) }
+        → IsSequentialResult version run.request run.input run.skips.items (contents w.outputs.items) bytes) }
     ensures can { IfOk result (λ w. (version : Version) → AllByRecursion (CanSpell version) w.certificate.groups) }
-    ensures line { IfOk result (λ w. string_bytes w.line ≡ done_line request.now.parts
-        (length (emitted request.now.job request.now.split input skips.now)) (length skips.now)) }
-    ensures refused { IfErr result (λ e. IsRunRefusal request.now input skips.now e) }
+    ensures line { IfOk result (λ w. string_bytes w.line ≡ done_line run.request.parts
+        (length (emitted run.request.job run.request.split run.input run.skips.items))
+        (length run.skips.items)) }
+    ensures refused { IfErr result (λ e. IsRunRefusal run.request run.input run.skips.items e) }
 {
-    let (outputs, certificate) = run_watched(alloc, request, &input, skips, watch)?;
+    let skips = run.skips.as_slice();
+    let (outputs, certificate) = run_watched(alloc, &run.request, &run.input, skips, watch)?;
+    let left_out = run.skips.len();
     // Free what is done before asking for more memory.
-    drop(input);
-    let line = done_line(alloc, outputs.len(), certificate.total(), skips.len())?;
+    drop(run);
+    let line = done_line(alloc, outputs.len(), certificate.total(), left_out)?;
     Ok(Work {
         outputs,
         certificate,
         line,
     })
-}
-
-/// The input, with its files distinct from those of the result.
-fn input_apart<S: Store>(
-    store: &S,
-    alloc: Global,
-    request: &Request,
-    options: &Options<'_>,
-) -> Result<Input, Fault>
-    requires { RangeStands options.now }
-    ensures input { IfOk result (λ input. IsInput (S.holds store.now) (stretch_of options.now) request.now.split input) }
-    ensures apart { OnOk result (AreApart (S.known_as store.now) (input_names options.now)
-        (result_names options.now.out.now options.now.parts)) }
-    ensures refused { IfErr result (λ e. IsInputRefusal (S.holds store.now)
-        (S.unreadable store.now) (S.known_as store.now) (stretch_of options.now)
-        (input_names options.now) (result_names options.now.out.now options.now.parts) request.now.split e) }
-{
-    let besides = Vec::new(alloc);
-    let written = names_of_result(alloc, options.out, options.parts as usize)?;
-    let files = FileNames { besides, written };
-    let (input, _) = input_of(store, alloc, request, options, files)?;
-    Ok(input)
 }
 
 /// Tests the request, the skip list, the files, that none is written, their fit; then works. It
@@ -108,12 +78,12 @@ fn test_and_work<S: Store>(
         (contents w.outputs.items) bytes (string_bytes w.line)) }
     ensures can { IfOk result (λ w. AllByRecursion (CanSpell asked.now.version) w.certificate.groups) }
     ensures refused { IfErr result (λ e. IsWorkRefusal (S.holds store.now)
-        (S.unreadable store.now) (S.known_as store.now) asked.now e) }
+        (S.unreadable store.now) (S.known_as store.now) asked.now.options asked.now.skips.now
+        (written_by_seq asked.now) e) }
 {
-    let request = request_of(alloc, &asked.options)?;
-    let skips = skips_of(alloc, asked.skips)?;
-    let input = input_apart(store, alloc, &request, &asked.options)?;
-    run_request(alloc, &request, input, skips.as_slice(), watch)
+    let options = &asked.options;
+    let run = run_input_of(store, alloc, options, asked.skips, Some(options.out))?;
+    run_request(alloc, run, watch)
 }
 
 fn spelled_in(certificate: &Certificate, version: Version) -> VersionedCertificate<'_>
@@ -158,19 +128,23 @@ pub fn seq<S: Store>(
     })
 }
 
-/// Executes one command. `watch` gets the progress of long work.
-pub fn execute<S: Store, C: Scratch, R: Threads + Wait + Sync>(
+/// Executes one command. `watch` gets the progress of long work, `out` what a command prints while
+/// it works.
+pub fn execute<S: Store, C: Scratch, R: Threads + Wait + Sync, W: CountedWrite>(
     machine: &Machine<'_, C, R>,
     store: &mut S,
     asked: &Subcommand<'_>,
     watch: &dyn Progress,
+    out: &mut W,
 ) -> Result<CommandOutput, Fault>
     ensures answers { IfOk result (λ said. Answers (S.holds store.old) (S.holds store.new)
-        (S.known_as store.old) asked.now (string_bytes said.text) said.status) }
+        (S.known_as store.old) asked.now (W.seen out.old) (W.seen out.new)
+        (string_bytes said.text) said.status) }
     ensures others { ChangesOwn (S.holds store.old) (S.holds store.new) asked.now }
+    ensures prints { PrintsOwn asked.now (W.seen out.old) (W.seen out.new) }
     ensures refused { IfErr result (λ e. IsRefusal (S.holds store.old) (S.holds store.new)
         (S.unreadable store.old) (S.unwritable store.old)
-        (S.alike store.old) (S.known_as store.old) asked.now e) }
+        (S.alike store.old) (S.known_as store.old) asked.now (W.seen out.old) (W.seen out.new) e) }
 {
     let (rt, alloc) = (machine.rt, machine.alloc);
     match asked {
@@ -179,5 +153,6 @@ pub fn execute<S: Store, C: Scratch, R: Threads + Wait + Sync>(
         Subcommand::Run(asked) => run_by_workers(machine, store, asked, watch),
         Subcommand::Merge(asked) => merge(rt, store, alloc, asked),
         Subcommand::Verify(asked) => verify(store, alloc, asked),
+        Subcommand::Explain(asked) => explain(store, alloc, asked, out),
     }
 }

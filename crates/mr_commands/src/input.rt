@@ -4,13 +4,17 @@ ghost use Rattle.std.specs.Prelude.{length, string_bytes};
 ghost use Rattle.std.specs.Option.{ForSome};
 ghost use Rattle.mr_args.specs.Asked.{RangeStands};
 ghost use Rattle.mr_files.specs.Identities.{AreApart};
-ghost use Rattle.mr_commands.specs.Inputs.{AreRead, IsInputRefusal, IsTakenInput};
+ghost use Rattle.mr_commands.specs.Inputs.{AreRead, IsInputRefusal, IsRunInput};
+ghost use Rattle.mr_commands.specs.Inputs.{IsRunInputRefusal, IsTakenInput};
 ghost use Rattle.mr_commands.specs.Inputs.{IsUnreadInput, told_of_unread};
-ghost use Rattle.mr_commands.specs.Named.{input_names, named, stretch_of as stretch_in};
+ghost use Rattle.mr_commands.specs.Named.{input_names, named, names_in};
+ghost use Rattle.mr_commands.specs.Named.{stretch_of as stretch_in};
 
-use mr_args::{Fault, Options};
+use mr_args::{Fault, Options, request_of, skips_of};
+use mr_bytes::RecordName;
 use mr_files::{
-    RangeFault, Store, Stretch, UnreadStretch, add_names, first_shared, read_stretch_within,
+    RangeFault, Store, Stretch, UnreadStretch, add_names, first_shared, names_of_result,
+    read_stretch_within,
 };
 use mr_input::{Input, InputFault, MAX_BYTES};
 use mr_jobs::Request;
@@ -21,6 +25,14 @@ use std::alloc::{AllocError, Global};
 pub struct FileNames {
     pub besides: Vec<String>,
     pub written: Vec<String>,
+}
+
+/// What a job runs on: the request, the records to leave out, and an input that fits.
+#[derive(Drop)]
+pub struct RunInput {
+    pub request: Request,
+    pub skips: Vec<RecordName>,
+    pub input: Input,
 }
 
 /// What a request takes of its files.
@@ -109,4 +121,43 @@ pub fn input_of<S: Store>(
         return Err(Fault::TooManySplits);
     }
     Ok((input, ends))
+}
+
+/// Tests the request and the text of the skip list, then reads the input. None of its files may be
+/// one of the result in the directory, if one is written.
+pub fn run_input_of<S: Store>(
+    store: &S,
+    alloc: Global,
+    options: &Options<'_>,
+    skips: &str,
+    dir: Option<&str>,
+) -> Result<RunInput, Fault>
+    ensures input { IfOk result (IsRunInput (S.holds store.now) options.now skips.now) }
+    ensures apart { OnOk result (AreApart (S.known_as store.now) (input_names options.now)
+        (names_in (option_map (λ s. s.now) dir.entry) options.now.parts)) }
+    ensures refused { IfErr result (IsRunInputRefusal (S.holds store.now)
+        (S.unreadable store.now) (S.known_as store.now) options.now skips.now
+        (names_in (option_map (λ s. s.now) dir.entry) options.now.parts)) }
+{
+    let request = request_of(alloc, options)?;
+    let skips = skips_of(alloc, skips)?;
+    let besides = Vec::new(alloc);
+    let written = names_within(alloc, dir, options.parts)?;
+    let files = FileNames { besides, written };
+    let (input, _) = input_of(store, alloc, &request, options, files)?;
+    Ok(RunInput {
+        request,
+        skips,
+        input,
+    })
+}
+
+fn names_within(alloc: Global, dir: Option<&str>, parts: u32) -> Result<Vec<String>, AllocError>
+    ensures { IfOk result (λ v. map string_bytes v.items
+        ≡ names_in (option_map (λ s. s.now) dir.entry) parts) }
+{
+    match dir {
+        Some(dir) => names_of_result(alloc, dir, parts as usize),
+        None => Ok(Vec::new(alloc)),
+    }
 }

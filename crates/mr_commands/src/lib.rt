@@ -4,6 +4,8 @@
 mod accepting;
 mod check_job;
 mod commands;
+mod explaining;
+mod feeds;
 mod input;
 mod judging;
 mod merging;
@@ -12,6 +14,7 @@ mod texts;
 mod verifying;
 
 pub use crate::commands::{execute, seq};
+pub use crate::explaining::explain;
 pub use crate::judging::check;
 pub use crate::merging::merge;
 pub use crate::running::{Machine, RunOutcome, run};

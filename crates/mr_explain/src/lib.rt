@@ -24,6 +24,7 @@ mod sieve;
 pub use comparing::{Comparison, compare};
 pub use evidence::explain;
 pub use group::group_text;
+pub use lines::line_feeds;
 pub use query::{ExplainFault, Explained, Query, SourceFile, Totals, Wanted};
 
 /// A record gives a key exactly where the key is among the keys that it emits. The records that a

@@ -41,7 +41,7 @@ fn feeds_one_by_one(bytes: &[u8]) -> usize
 }
 
 /// The number of line feeds, 64 bytes at a time.
-fn line_feeds(bytes: &[u8]) -> usize
+pub fn line_feeds(bytes: &[u8]) -> usize
     ensures { result ≡ count_by (λ b. b == 0x0A) bytes.now }
 {
     let mut feeds = 0;

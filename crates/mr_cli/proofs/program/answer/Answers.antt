@@ -10,10 +10,10 @@ returns-in_err-execute-in-Some-clause-unanswered g c =
     let p = err_from_is_err_and c.from_residual-in_err-execute-in-Some.result c.from_residual-in_err-execute-in-Some.ensures.1 in
     let parsed = c.in_ok-matches.matches in
     let named : IsAskedIn parsed c.in-Some.asked = subst (λ (r : Option Subcommand). IfSome r (λ asked. IsAskedIn parsed asked)) c.in-Some.is c.in_ok-asked.ensures.asked in
-    rw p.1 (rw p.2 (inr (record { parsed = parsed; asked = c.in-Some.asked; named = named; refused = c.in_err-execute-in-Some.ensures.refused })))
+    rw p.1 (rw p.2 (inr (record { parsed = parsed; asked = c.in-Some.asked; named = named; refused = c.in_err-execute-in-Some.ensures.refused; prints = c.in_err-execute-in-Some.ensures.prints })))
 
 pub returns-in-Some-clause-answered : goal.returns-in-Some-clause-answered
 returns-in-Some-clause-answered g c =
     let parsed = c.in_ok-matches.matches in
     let named : IsAskedIn parsed c.in-Some.asked = subst (λ (r : Option Subcommand). IfSome r (λ asked. IsAskedIn parsed asked)) c.in-Some.is c.in_ok-asked.ensures.asked in
-    record { parsed = parsed; asked = c.in-Some.asked; named = named; answers = c.in_ok-execute-in-Some.ensures.answers; others = c.in_ok-execute-in-Some.ensures.others }
+    record { parsed = parsed; asked = c.in-Some.asked; named = named; answers = c.in_ok-execute-in-Some.ensures.answers; others = c.in_ok-execute-in-Some.ensures.others; prints = c.in_ok-execute-in-Some.ensures.prints }
