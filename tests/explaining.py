@@ -1,6 +1,7 @@
 """`explain`: the records behind a count and how a result's lines compare, by the rules and by the program; each refusal by its text;
 and each call failing in turn."""
 import os
+import re
 import subprocess
 
 from failing import shim, with_failing
@@ -12,6 +13,11 @@ from ranges import borders_in, put_together, stretches, words_of
 
 FILES = {"a": b"The cat saw the dog.\n\nThe dog saw nothing.\n", "b": b"a cat\n--\nthe end"}
 LOG = {"log": b'h "GET /x HTTP/1.0" 200\nno quotes\nh "GET http://B/y HTTP/1.0" 200\nh "POST /x"\n'}
+
+
+def lines_in(text):
+    """Its lines, each with its line feed; a carriage return ends none."""
+    return re.findall(rb"[^\n]*\n|[^\n]+\Z", text)
 
 
 def gives(request, name, number, start, line, key):
@@ -44,7 +50,7 @@ def listing(request, files, ranges, skips, key, limit):
 def expected(request, files, skips, key):
     """The lines that a result has for the key."""
     values = [value for name, number, start, line in named_records(files, request.split) if name not in skips for own, value in emitted(request, number, start, line) if own == key]
-    return text_of(request, key, values).splitlines(keepends=True) if values else []
+    return lines_in(text_of(request, key, values)) if values else []
 
 
 def answer(part, key, lines):
@@ -69,8 +75,8 @@ def rows(harness):
         ("a limit", [*cat, "--limit", "1"], FILES, b"a:1:0:The cat saw the dog.\ncat: 2 pairs in 2 records\n"),
         ("a limit of none", [*cat, "--limit", "0"], FILES, b"cat: 2 pairs in 2 records\n"),
         ("records that give nothing", ["--job", "words", "--none"], FILES, b"a:2:21:\nb:2:6:--\nnothing: 0 pairs in 2 records\n"),
-        ("lines without a resource", ["--job", "url", "--none"], LOG, b'log:2:24:no quotes\nlog:4:68:h "POST /x"\nnothing: 0 pairs in 2 records\n'),
-        ("a resource", ["--job", "url", "--key", "/x"], LOG, b'log:1:0:h "GET /x HTTP/1.0" 200\n/x: 1 pairs in 1 records\n'),
+        ("lines without a resource", ["--job", "url", "--none"], LOG, b"log:2:24:no quotes\nnothing: 0 pairs in 1 records\n"),
+        ("a resource", ["--job", "url", "--key", "/x"], LOG, b'log:1:0:h "GET /x HTTP/1.0" 200\nlog:4:66:h "POST /x"\n/x: 2 pairs in 2 records\n'),
         ("a line", ["--job", "grep", "--literal", "CAT", "--fold", "--key", "a cat"], FILES, b"b:1:0:a cat\na cat: 1 pairs in 1 records\n"),
         ("a line that begins with hyphens", ["--job", "grep", "--literal", "-", "--key", "--"], FILES, b"b:2:6:--\n--: 1 pairs in 1 records\n"),
         ("a word of an index", ["--job", "index", "--key", "cat"], FILES, b"a:1:0:The cat saw the dog.\nb:1:0:a cat\ncat: 2 pairs in 2 records\n"),
@@ -189,7 +195,7 @@ def random_calls(harness):
 
 def changed(rnd, part, key):
     """A part with a line of the key changed, dropped or added, or with a byte changed anywhere."""
-    lines = part.splitlines(keepends=True)
+    lines = lines_in(part)
     own = [at for at, line in enumerate(lines) if line.startswith(key + b"\t")]
     ways = [part + key + b"\t1\n", key + b"\t0\n" + part]
     if own:
