@@ -3,7 +3,7 @@ _mapred() {
     local word=${COMP_WORDS[COMP_CWORD]} before=${COMP_WORDS[COMP_CWORD - 1]}
     COMPREPLY=()
     if [ "$COMP_CWORD" = 1 ]; then
-        mapfile -t COMPREPLY < <(compgen -W 'seq run check merge verify help --help --version' -- "$word")
+        mapfile -t COMPREPLY < <(compgen -W 'seq run check merge verify explain help --help --version' -- "$word")
         return
     fi
     case "${COMP_WORDS[1]} $before" in
@@ -44,6 +44,17 @@ _mapred() {
     'merge --out') mapfile -t COMPREPLY < <(compgen -d -- "$word") && return ;;
     'merge --inputs') mapfile -t COMPREPLY < <(compgen -f -- "$word") && return ;;
     'verify --out') mapfile -t COMPREPLY < <(compgen -d -- "$word") && return ;;
+    'explain --job') mapfile -t COMPREPLY < <(compgen -W 'words grep url index' -- "$word") && return ;;
+    'explain --literal') return ;;
+    'explain --parts') return ;;
+    'explain --split') return ;;
+    'explain --max-skips') return ;;
+    'explain --from') return ;;
+    'explain --to') return ;;
+    'explain --key') return ;;
+    'explain --limit') return ;;
+    'explain --out') mapfile -t COMPREPLY < <(compgen -d -- "$word") && return ;;
+    'explain --skips') mapfile -t COMPREPLY < <(compgen -f -- "$word") && return ;;
     esac
     case "${COMP_WORDS[1]} $word" in
     'seq -'*) mapfile -t COMPREPLY < <(compgen -W '--job --keep-case --literal --fold --by-host --parts --split --max-skips --from --to --out --skips --cert --help' -- "$word") ;;
@@ -51,6 +62,7 @@ _mapred() {
     'check -'*) mapfile -t COMPREPLY < <(compgen -W '--job --keep-case --literal --fold --by-host --parts --split --max-skips --from --to --out --threads --verdict --help' -- "$word") ;;
     'merge -'*) mapfile -t COMPREPLY < <(compgen -W '--out --inputs --partial --help' -- "$word") ;;
     'verify -'*) mapfile -t COMPREPLY < <(compgen -W '--out --with-inputs --help' -- "$word") ;;
+    'explain -'*) mapfile -t COMPREPLY < <(compgen -W '--job --keep-case --literal --fold --by-host --parts --split --max-skips --from --to --key --none --limit --out --skips --help' -- "$word") ;;
     *) mapfile -t COMPREPLY < <(compgen -f -- "$word") ;;
     esac
 }
