@@ -13,7 +13,7 @@ use Rattle.mr_splits.specs.Kept.{kept_records}
 use Rattle.mr_explain.specs.declared.query.Wanted.{Wanted}
 use Rattle.mr_explain.specs.Explained.{evidence, feeds_before, is_wanted, pairs_of, pairs_with}
 
-count_by-append : {X : Type 0} (p : X → Bool) (xs ys : List X) → count_by p (xs ++ ys) ≡ count_by p xs + count_by p ys
+pub count_by-append : {X : Type 0} (p : X → Bool) (xs ys : List X) → count_by p (xs ++ ys) ≡ count_by p xs + count_by p ys
 count_by-append p xs ys =
     omega (
       arith,

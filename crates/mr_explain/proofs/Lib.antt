@@ -1,4 +1,5 @@
 pub mod CountLemmas
+pub mod CutLemmas
 pub mod GroupLemmas
 pub mod LawLemmas
 pub mod LeftOutLemmas
@@ -6,5 +7,7 @@ pub mod LineLemmas
 pub mod NameLemmas
 pub mod PieceLemmas
 pub mod SieveLemmas
+pub mod SiftingLaws
+pub mod TakingLemmas
 pub mod TextLemmas
 pub mod WalkLemmas

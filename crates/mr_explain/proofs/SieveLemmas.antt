@@ -1,5 +1,5 @@
 -- A record that gives a key contains its bytes.
-use Rattle.std.proofs.Common.{◌≡◌, ℕ, ◌+◌, ◌-◌, ◌<◌, Bool, true, false, cond, not, ◌&&◌, leb, List, [], ◌∷◌, ◌++◌, All, Option, None, Some, length, get_or, take, drop, map, slice_range, refl, ap, sym, ◌∙◌, subst, arith, inl, inr, length-append, append_assoc}
+use Rattle.std.proofs.Common.{◌≡◌, ℕ, ◌+◌, ◌-◌, ◌<◌, Bool, true, false, cond, not, ◌&&◌, leb, ltb, List, [], ◌∷◌, ◌++◌, All, Option, None, Some, length, get_or, take, drop, map, slice_range, refl, ap, sym, ◌∙◌, subst, arith, inl, inr, length-append, append_assoc}
 use Rattle.std.proofs.lemmas.Bool.{cases_lt, false≢true}
 use Rattle.std.proofs.lemmas.Bool.Decides.{leb_tells}
 use Rattle.std.proofs.lemmas.List.{length-take, length-drop, length-map, get_or-take, get_or-drop, get_or-append-add, get_or_append_left, get_or-map}
@@ -17,7 +17,7 @@ use Rattle.mr_jobs.specs.Url.{IsRequestFor, url_of}
 use Rattle.mr_jobs.proofs.LiteralLemmas.{place_found}
 use Rattle.mr_jobs.proofs.UrlLemmas.{parts_of-url}
 use Rattle.mr_sequential.proofs.KeyLaws.{bytes_eq-is}
-use Rattle.mr_explain.specs.Explained.{pairs_with}
+use Rattle.mr_explain.specs.Explained.{has_key, pairs_with}
 
 -- ---- parts of a line stand in it
 
@@ -154,3 +154,14 @@ pub sieve_fits : (job : JobSpec) (key : List ℕ) (n : ℕ) (file start : ℕ) (
 sieve_fits job key n file start line none =
     none_with (folds_words job) line key n (emissions job file start line)
     (not_held (holds (folds_words job) line (take n key)) (line, At file start) none) (keys_stand job file start line)
+
+-- ---- a line without the front of a key is not looked for
+
+pub needle_fits : (job : JobSpec) (key : List ℕ) (n : ℕ) (file start : ℕ) (line : List ℕ)
+    → holds (folds_words job) line (take n key) ≡ false → has_key key (emissions job file start line) ≡ false
+needle_fits job key n file start line none =
+    ap (λ (es : List Emission). ltb 0 (length es)) (none_with (folds_words job) line key n (emissions job file start line) none (keys_stand job file start line))
+
+-- nothing stands everywhere
+pub nothing_stands : (fold : Bool) (line : List ℕ) → holds fold line [] ≡ true
+nothing_stands fold line = place_found fold line [] 0 (record { fits = omega arith; reads = λ j less. absurd (omega (arith, less)) })

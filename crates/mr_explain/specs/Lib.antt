@@ -4,3 +4,6 @@ pub mod Walking
 pub mod Texts
 pub mod Laws
 pub mod Compared
+pub mod Sifting
+pub mod Needles
+pub mod Taking

@@ -12,7 +12,7 @@ use mr_jobs::{Job, JobFault, MAX_LITERAL};
 use std::alloc::{AllocError, Global};
 
 /// Whether keys are folded: those of words and of an index that don't keep the case.
-fn folds_keys(job: &Job) -> bool
+pub(crate) fn folds_keys(job: &Job) -> bool
     ensures { result ≡ folds_words job.now }
 {
     let row = job.row();
