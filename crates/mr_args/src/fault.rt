@@ -29,6 +29,8 @@ pub enum Fault {
     Input(InputFault),
     TooManySplits,
     Run(RunFault),
+    /// No record gives a pair, and pairs are needed.
+    NoPairs,
     /// No worker, or more than 64.
     BadWorkers,
     /// No attempt for a task, or more than 16.
@@ -168,7 +170,7 @@ impl Fault {
         }
     }
 
-    /// The exit status: 1 for unfit shards, 2 for usage or a limit, 3 for a file, 4 for want of
+    /// The exit status: 1 for unfit shards and a lack of pairs, 2 for usage or a limit, 3 for a file, 4 for want of
     /// memory.
     pub fn status(&self) -> u8
         ensures { result ≡ status_of self.now }
@@ -177,6 +179,7 @@ impl Fault {
             Fault::CannotRead(_) | Fault::CannotWrite(_) | Fault::CannotPrint => 3,
             Fault::OutOfMemory => 4,
             Fault::Shards(fault) | Fault::Verified(fault) => shards_status(fault),
+            Fault::NoPairs => 1,
             _ => 2,
         }
     }
@@ -217,6 +220,7 @@ impl fmt::Display for Fault {
             Fault::Input(fault) => write_told(f, fault),
             Fault::TooManySplits => write_told(f, &"TooManySplits"),
             Fault::Run(fault) => write_told(f, fault),
+            Fault::NoPairs => write_told(f, &"NoPairs"),
             Fault::BadWorkers => write_told(f, &"BadWorkers"),
             Fault::BadAttempts => write_told(f, &"BadAttempts"),
             Fault::BadThreads => write_told(f, &"BadThreads"),

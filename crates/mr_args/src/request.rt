@@ -49,6 +49,8 @@ pub struct SeqOptions<'a> {
     pub options: Options<'a>,
     pub skips: &'a str,
     pub version: Version,
+    /// A result without a pair is refused.
+    pub need_pairs: bool,
 }
 
 /// Options of `run`. `version` is the certificate's; `script` and `history` name files.
@@ -64,6 +66,8 @@ pub struct RunOptions<'a> {
     pub history: Option<&'a str>,
     /// The directory of the regions' files; without one, regions stay in memory.
     pub scratch: Option<&'a str>,
+    /// A result without a pair is refused.
+    pub need_pairs: bool,
 }
 
 /// Options of `check`. 1 to 64 threads judge; a yes writes its verdict to the file `verdict`.

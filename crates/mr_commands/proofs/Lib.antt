@@ -1,3 +1,4 @@
+pub mod OldVerdictLemmas
 pub mod Refused
 pub mod Kept
 pub mod JudgingInputs
@@ -8,3 +9,4 @@ pub mod Told
 pub mod Streamed
 pub mod ExplainLemmas
 pub mod FeedLemmas
+pub mod SiftedLemmas

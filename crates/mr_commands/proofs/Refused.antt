@@ -1,10 +1,9 @@
 -- What the program says, and why it says nothing.
-use Rattle.std.proofs.Common.{◌≡◌, ℕ, List, Result, Ok, Err, inr, ap, sym, ◌∙◌, subst, length, [], ◌∷◌, ◌++◌}
+use Rattle.std.proofs.Common.{◌≡◌, ℕ, true, Option, None, List, inr, ap, sym, ◌∙◌, subst, length, [], ◌∷◌, ◌++◌}
 use Rattle.std.proofs.lemmas.List.{length-map}
 use Rattle.std.specs.Prelude.{Vec}
 use Rattle.std.specs.Global.{Global}
 use Rattle.mr_input.specs.Files.{contents}
-use Rattle.std.specs.Prelude.{IfOk}
 use Rattle.mr_sequential.specs.Emitted.{emitted}
 use Rattle.mr_files.specs.Refusals.{IsWriteRefusal}
 use Rattle.mr_files.specs.declared.store.FileFault.{FileFault}
@@ -20,11 +19,14 @@ use Rattle.mr_certform.specs.Pieces.{versioned_bytes}
 use Rattle.mr_certform.specs.Value.{Contents, SpellsIn, Versioned}
 use Rattle.mr_commands.specs.Outcomes.{IsSequentialResult, done_line}
 use Rattle.mr_args.specs.Asked.{request_asked}
-use Rattle.mr_commands.specs.Answers.{AnswersSeq, IsRunRefusal, IsWorkRefusal, IsSeqRefusal, WorksOut, written_by_seq}
+use Rattle.mr_args.specs.declared.fault.Fault.TheVariants.{NoPairs}
+use Rattle.mr_sequential.specs.Skips.{skip_fault}
+use Rattle.mr_commands.specs.OldVerdicts.{ChangesOver, IsEmptied, IsOldVerdict, StoodThere, no_text}
+use Rattle.mr_commands.specs.Answers.{AnswersSeq, HasPairs, IsPairless, IsRunRefusal, IsWorkRefusal, IsSeqRefusal, WorksOut, written_by_seq}
 use Rattle.mr_commands.proofs.JudgingRefused.{stopped_as}
 use Rattle.mr_commands.specs.Inputs.{IsAsked, IsInputRefusal, IsRunInput, IsRunInputRefusal}
 use Rattle.mr_commands.specs.declared.input.RunInput.{RunInput}
-use Rattle.mr_commands.specs.Named.{input_names, stretch_of}
+use Rattle.mr_commands.specs.Named.{input_names, named, stretch_of}
 use Rattle.mr_args.specs.Statuses.{ReportsFile}
 use Rattle.mr_bytes.specs.declared.RecordName.{RecordName}
 use Rattle.mr_args.specs.SkipList.{SpellsNames}
@@ -44,8 +46,9 @@ work_run_stage holds unreadable known o text written run e i apart h =
 pub works_out : (holds : Stored) (known : Known) (o : SeqOptions) (run : RunInput) (outputs : List (List ℕ)) (bytes line : List ℕ)
     → IsRunInput holds o.options o.skips.now run → AreApart known (input_names o.options) (written_by_seq o)
     → IsSequentialResult o.version run.request run.input run.skips.items outputs bytes
-    → line ≡ done_line run.request.parts (length (emitted run.request.job run.request.split run.input run.skips.items)) (length run.skips.items) → WorksOut holds known o outputs bytes line
-works_out holds known o run outputs bytes line i apart h l = record {
+    → line ≡ done_line run.request.parts (length (emitted run.request.job run.request.split run.input run.skips.items)) (length run.skips.items)
+    → HasPairs o.need_pairs (length (emitted run.request.job run.request.split run.input run.skips.items)) → WorksOut holds known o outputs bytes line
+works_out holds known o run outputs bytes line i apart h l some = record {
   files = run.input;
   names = run.skips.items;
   input = i.input;
@@ -53,11 +56,24 @@ works_out holds known o run outputs bytes line i apart h l = record {
   spelled = i.spelled;
   result = subst (λ (v : RequestSpec). IsSequentialResult o.version v run.input run.skips.items outputs bytes) i.request h;
   said = subst (λ (v : RequestSpec). line ≡ done_line v.parts (length (emitted v.job v.split run.input run.skips.items)) (length run.skips.items)) i.request l;
+  pairs = subst (λ (v : RequestSpec). HasPairs o.need_pairs (length (emitted v.job v.split run.input run.skips.items))) i.request some;
 }
 
-pub both_ok : {W E : Type 0} (r : Result W E) (P Q R : W → Type 0) → ((w : W) → P w → Q w → R w) → IfOk r P → IfOk r Q → IfOk r R
-both_ok (Ok w) P Q R f p q = f w p q
-both_ok (Err e) P Q R f p q = tt
+-- pairs are needed, and there are none
+pub pairless : (holds : Stored) (known : Known) (o : SeqOptions) (run : RunInput)
+    → IsRunInput holds o.options o.skips.now run → AreApart known (input_names o.options) (written_by_seq o)
+    → skip_fault run.request run.input run.skips.items ≡ None → o.need_pairs ≡ true
+    → length (emitted run.request.job run.request.split run.input run.skips.items) ≡ 0 → IsPairless holds known o NoPairs
+pairless holds known o run i apart allowed needed none = (
+  needed,
+  run.input,
+  run.skips.items,
+  i.input,
+  apart,
+  i.spelled,
+  subst (λ (v : RequestSpec). skip_fault v run.input run.skips.items ≡ None) i.request allowed,
+  subst (λ (v : RequestSpec). length (emitted v.job v.split run.input run.skips.items) ≡ 0) i.request none,
+)
 
 -- the bytes that are written spell the certificate in the version that was asked for
 pub spelled_so : (version : Version) (certificate : Contents) (s : Versioned) → s ≡ record { version = version; certificate = certificate }
@@ -69,37 +85,43 @@ pub all_parts : (old : Stored) (known : Known) (o : SeqOptions) (outputs given :
     → WorksOut old known o (contents outputs) bytes line → given ≡ outputs → length given ≡ o.options.parts
 all_parts old known o outputs given bytes line work same = ap length same ∙ (sym (length-map outputs (λ o. o.items)) ∙ work.result.count)
 
--- the result was not all written
-pub stopped_stage : (old new : Stored) (unreadable unwritable : Faulty) (known : Known) (o : SeqOptions) (outputs given : List (Vec ℕ Global)) (bytes line : List ℕ) (e : FileFault) (f : Fault)
-    → WorksOut old known o (contents outputs) bytes line → given ≡ outputs
-    → IsWriteRefusal old new unwritable (result_names o.options.out.now (length given)) (contents given ++ bytes ∷ []) e → ReportsFile e f → IsSeqRefusal old new unreadable unwritable known o f
-stopped_stage old new unreadable unwritable known o outputs given bytes line e f work same h t =
-    let all : length given ≡ o.options.parts = all_parts old known o outputs given bytes line work same in
-    let texts : contents given ++ bytes ∷ [] ≡ contents outputs ++ bytes ∷ [] = ap (λ (v : List (Vec ℕ Global)). contents v ++ bytes ∷ []) same in
-    inr (contents outputs, bytes, line, work, stopped_as old new unwritable (result_names o.options.out.now o.options.parts) (contents outputs ++ bytes ∷ []) e f (subst (λ (v : List (List ℕ)). IsWriteRefusal old new unwritable (result_names o.options.out.now o.options.parts) v e) texts (subst (λ (n : ℕ). IsWriteRefusal old new unwritable (result_names o.options.out.now n) (contents given ++ bytes ∷ []) e) all h)) t)
+module _ (old new : Stored) (unreadable unwritable : Faulty) (known : Known) (verdict : Option (List ℕ)) (o : SeqOptions) (outputs given : List (Vec ℕ Global)) (bytes line : List ℕ) where
+  -- the result was not all written
+  pub stopped_stage : (e : FileFault) (f : Fault)
+      → WorksOut old known o (contents outputs) bytes line → given ≡ outputs → IsOldVerdict old unreadable known o.options.out.now verdict
+      → IsWriteRefusal old new unwritable (named verdict ++ result_names o.options.out.now (length given)) (no_text verdict ++ (contents given ++ bytes ∷ [])) e → ReportsFile e f
+      → IsSeqRefusal old new unreadable unwritable known o f
+  stopped_stage e f work same there h t =
+      let all : length given ≡ o.options.parts = all_parts old known o outputs given bytes line work same in
+      let texts : contents given ++ bytes ∷ [] ≡ contents outputs ++ bytes ∷ [] = ap (λ (v : List (Vec ℕ Global)). contents v ++ bytes ∷ []) same in
+      inr (inr (contents outputs, bytes, line, verdict, work, there, stopped_as old new unwritable (named verdict ++ written_by_seq o) (no_text verdict ++ (contents outputs ++ bytes ∷ [])) e f (subst (λ (v : List (List ℕ)). IsWriteRefusal old new unwritable (named verdict ++ written_by_seq o) (no_text verdict ++ v) e) texts (subst (λ (n : ℕ). IsWriteRefusal old new unwritable (named verdict ++ result_names o.options.out.now n) (no_text verdict ++ (contents given ++ bytes ∷ [])) e) all h)) t))
 
--- so nothing else changed
-pub changed_own : (old new : Stored) (known : Known) (o : SeqOptions) (outputs given : List (Vec ℕ Global)) (bytes line : List ℕ)
-    → WorksOut old known o (contents outputs) bytes line → given ≡ outputs
-    → ChangesAmong old new (result_names o.options.out.now (length given)) → ChangesAmong old new (result_names o.options.out.now o.options.parts)
-changed_own old new known o outputs given bytes line work same h =
-    subst (λ (n : ℕ). ChangesAmong old new (result_names o.options.out.now n)) (all_parts old known o outputs given bytes line work same) h
+  -- so nothing else changed
+  pub changed_own : WorksOut old known o (contents outputs) bytes line → given ≡ outputs → StoodThere old o.options.out.now verdict
+      → ChangesAmong old new (named verdict ++ result_names o.options.out.now (length given)) → ChangesOver old new o.options.out.now (result_names o.options.out.now o.options.parts)
+  changed_own work same there h =
+      (verdict, there, subst (λ (n : ℕ). ChangesAmong old new (named verdict ++ result_names o.options.out.now n)) (all_parts old known o outputs given bytes line work same) h)
 
--- and the result stands there
-pub answers_seq : (old new : Stored) (known : Known) (o : SeqOptions) (outputs given : List (Vec ℕ Global)) (bytes line : List ℕ)
-    → WorksOut old known o (contents outputs) bytes line → given ≡ outputs
-    → Holding new (part_names o.options.out.now (length given)) (contents given) → new (name_of_certificate o.options.out.now) bytes → AnswersSeq old new known o line
-answers_seq old new known o outputs given bytes line work same parts certificate = record {
-  files = work.files;
-  names = work.names;
-  outputs = contents outputs;
-  bytes = bytes;
-  input = work.input;
-  apart = work.apart;
-  spelled = work.spelled;
-  result = work.result;
-  parts = subst (λ (n : ℕ). Holding new (part_names o.options.out.now n) (contents outputs)) (all_parts old known o outputs given bytes line work same)
-      (subst (λ (v : List (Vec ℕ Global)). Holding new (part_names o.options.out.now (length given)) (contents v)) same parts);
-  certificate = certificate;
-  said = work.said;
-}
+  -- and the result stands there
+  pub answers_seq : WorksOut old known o (contents outputs) bytes line → given ≡ outputs → IsOldVerdict old unreadable known o.options.out.now verdict
+      → AreApart known (input_names o.options) (named verdict) → IsEmptied new verdict
+      → Holding new (part_names o.options.out.now (length given)) (contents given) → new (name_of_certificate o.options.out.now) bytes → AnswersSeq old new unreadable known o line
+  answers_seq work same there unread none parts certificate = record {
+    files = work.files;
+    names = work.names;
+    outputs = contents outputs;
+    bytes = bytes;
+    input = work.input;
+    apart = work.apart;
+    spelled = work.spelled;
+    result = work.result;
+    parts = subst (λ (n : ℕ). Holding new (part_names o.options.out.now n) (contents outputs)) (all_parts old known o outputs given bytes line work same)
+        (subst (λ (v : List (Vec ℕ Global)). Holding new (part_names o.options.out.now (length given)) (contents v)) same parts);
+    certificate = certificate;
+    said = work.said;
+    pairs = work.pairs;
+    verdict = verdict;
+    stood = there;
+    emptied = none;
+    unread = unread;
+  }

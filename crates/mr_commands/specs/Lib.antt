@@ -10,7 +10,9 @@ pub mod NoLines
 pub mod YesLines
 pub mod Named
 pub mod Inputs
+pub mod OldVerdicts
 pub mod Checks
 pub mod Verdicts
 pub mod Judgements
 pub mod Streamed
+pub mod Sifted

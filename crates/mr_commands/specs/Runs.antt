@@ -19,7 +19,7 @@ use Rattle.mr_files.specs.Refusals.{IsOneUnwritten, IsWriteRefusal}
 use Rattle.mr_files.specs.declared.store.FileFault.{FileFault}
 use Rattle.mr_files.specs.Names.{part_names, name_of_certificate, result_names}
 use Rattle.mr_args.specs.declared.fault.Fault.{Fault}
-use Rattle.mr_args.specs.declared.fault.Fault.TheVariants.{BadWorkers, BadAttempts, Script, ScratchInUse, SameFile, CannotRead, CannotWrite, OutOfMemory}
+use Rattle.mr_args.specs.declared.fault.Fault.TheVariants.{BadWorkers, BadAttempts, NoPairs, Script, ScratchInUse, SameFile, CannotRead, CannotWrite, OutOfMemory}
 use Rattle.mr_args.specs.declared.request.RunOptions.{RunOptions}
 use Rattle.mr_commands.specs.declared.running.RunOutcome.{RunOutcome}
 use Rattle.mr_commands.specs.declared.running.RunOutcome.TheVariants.{Certified, Failed, Uncertified}
@@ -27,7 +27,9 @@ use Rattle.mr_args.specs.Asked.{IsRequestRefusal, request_asked}
 use Rattle.mr_commands.specs.Inputs.{IsAsked, IsInput, IsInputRefusal}
 use Rattle.mr_commands.specs.Named.{input_names, named, stretch_of}
 use Rattle.mr_args.specs.Statuses.{ReportsFile}
+use Rattle.mr_commands.specs.Answers.{HasPairs}
 use Rattle.mr_commands.specs.HistoryLines.{fault_name, history_text}
+use Rattle.mr_commands.specs.OldVerdicts.{IsEmptied, IsOldVerdict, IsVerdictShared, no_text}
 use Rattle.mr_commands.specs.NoLines.{fault_text}
 
 -- ---- what is said
@@ -100,14 +102,16 @@ history_of (Certified c) = c.history
 history_of (Failed f h) = h
 history_of (Uncertified verdict h) = h
 
--- the result stands, where it is certified; else nothing but the history has changed
-abbrev pub KeepsResult : Stored → Stored → RunOptions → RunOutcome → Type 0
-KeepsResult old new o (Certified c) = Holding new (part_names o.options.out.now o.options.parts) (contents c.outputs.items) × new (name_of_certificate o.options.out.now) c.certificate.items
-KeepsResult old new o ran = ChangesAmong old new (named (history_name o))
+-- the result stands, where it is certified, and a verdict that stood there is empty; else nothing but the history has changed
+abbrev pub KeepsResult : Stored → Stored → Option (List ℕ) → RunOptions → RunOutcome → Type 0
+KeepsResult old new verdict o (Certified c) =
+    Holding new (part_names o.options.out.now o.options.parts) (contents c.outputs.items) × new (name_of_certificate o.options.out.now) c.certificate.items × IsEmptied new verdict
+KeepsResult old new verdict o ran = ChangesAmong old new (named (history_name o))
 
 -- the history stands under its name, unless a file of the result has that name (a pipe, a socket or a device may)
-abbrev pub KeepsHistory : Stored → RunOptions → RunOutcome → Type 0
-KeepsHistory new o ran = IfSome (history_name o) (λ name. Differs name (result_names o.options.out.now o.options.parts) → new name (history_text (history_of ran)))
+abbrev pub KeepsHistory : Stored → Option (List ℕ) → RunOptions → RunOutcome → Type 0
+KeepsHistory new verdict o ran =
+    IfSome (history_name o) (λ name. Differs name (named verdict ++ result_names o.options.out.now o.options.parts) → new name (history_text (history_of ran)))
 
 -- ---- what each stage leaves
 
@@ -115,28 +119,43 @@ abbrev pub IsHistoryKept : Stored → Option (List ℕ) → History → Type 0
 IsHistoryKept new None h = ⊤
 IsHistoryKept new (Some name) h = new name (history_text h)
 
--- the names that the result is written under, where it is certified
-abbrev pub names_left : List ℕ → RunOutcome → List (List ℕ)
-names_left out (Certified c) = result_names out (length c.outputs.items)
-names_left out ran = []
+-- the names that the result is written under, where it is certified; the verdict that stood there comes first
+abbrev pub names_left : Option (List ℕ) → List ℕ → RunOutcome → List (List ℕ)
+names_left verdict out (Certified c) = named verdict ++ result_names out (length c.outputs.items)
+names_left verdict out ran = []
 
-abbrev pub IsResultKept : Stored → List ℕ → RunOutcome → Type 0
-IsResultKept new out (Certified c) = Holding new (part_names out (length c.outputs.items)) (contents c.outputs.items) × new (name_of_certificate out) c.certificate.items
-IsResultKept new out ran = ⊤
+abbrev pub IsResultKept : Stored → Option (List ℕ) → List ℕ → RunOutcome → Type 0
+IsResultKept new verdict out (Certified c) =
+    Holding new (part_names out (length c.outputs.items)) (contents c.outputs.items) × new (name_of_certificate out) c.certificate.items × IsEmptied new verdict
+IsResultKept new verdict out ran = ⊤
 
 -- why a result was not all written; without one nothing is refused
-abbrev pub IsResultRefused : Stored → Stored → Faulty → List ℕ → RunOutcome → FileFault → Type 0
-IsResultRefused old new unwritable out (Certified c) fault =
-    IsWriteRefusal old new unwritable (result_names out (length c.outputs.items)) (contents c.outputs.items ++ c.certificate.items ∷ []) fault
-IsResultRefused old new unwritable out ran fault = ⊥
+abbrev pub IsResultRefused : Stored → Stored → Faulty → Option (List ℕ) → List ℕ → RunOutcome → FileFault → Type 0
+IsResultRefused old new unwritable verdict out (Certified c) fault =
+    IsWriteRefusal old new unwritable (named verdict ++ result_names out (length c.outputs.items)) (no_text verdict ++ (contents c.outputs.items ++ c.certificate.items ∷ [])) fault
+IsResultRefused old new unwritable verdict out ran fault = ⊥
+
+-- where a result is certified there are pairs, if they are needed
+abbrev pub HasPairsMade : Bool → RunOutcome → Type 0
+HasPairsMade needed (Certified c) = HasPairs needed c.pairs
+HasPairsMade needed ran = ⊤
+
+-- pairs are needed, and a result is certified that has none
+abbrev pub IsPairlessRun : Bool → RunOutcome → Fault → Type 0
+IsPairlessRun needed (Certified c) NoPairs = (needed ≡ true) × (c.pairs ≡ 0)
+IsPairlessRun needed ran fault = ⊥
 
 -- what `run` did where it tells of a run
-pub record AnswersRun (old new : Stored) (known : Known) (o : RunOptions) (text : List ℕ) (status : ℕ) : Type 0 where
+pub record AnswersRun (old new : Stored) (unreadable : Faulty) (known : Known) (o : RunOptions) (text : List ℕ) (status : ℕ) : Type 0 where
   pub ran : RunOutcome
   pub runs : Runs old known o ran
+  pub pairs : HasPairsMade o.need_pairs ran
   pub told : ReportsRan ran text status
-  pub result : KeepsResult old new o ran
-  pub history : KeepsHistory new o ran
+  pub verdict : Option (List ℕ)
+  pub stood : IsOldVerdict old unreadable known o.options.out.now verdict
+  pub apart : AreApart known (read_by_run o ++ written_by_run o) (named verdict)
+  pub result : KeepsResult old new verdict o ran
+  pub history : KeepsHistory new verdict o ran
 
 -- ---- why there is no run, or not all of it was written
 
@@ -209,17 +228,17 @@ IsStartRefusal holds unreadable alike known o fault = IsRequestRefusal o.options
 abbrev pub ReportsUnwritten : Faulty → List (List ℕ) → Fault → Type 0
 ReportsUnwritten unwritable names told = (e : FileFault) × ReportsFile e told × IsOneUnwritten unwritable names e
 
--- a file of the result can't be written, behind the history: those before it stand whole, under it stands what stood
+-- a file of the result can't be written, or a verdict that stood there can't be emptied, behind the history: those before it stand whole, under it stands what stood
 -- there or a beginning of its text, the history stands unless it has the name of one of these, and all else stands as
 -- before
-pub record IsStoppedAt (old new : Stored) (unwritable : Faulty) (o : RunOptions) (c : Kept) (name : List ℕ) : Type 0 where
+pub record IsStoppedAt (old new : Stored) (unwritable : Faulty) (verdict : Option (List ℕ)) (o : RunOptions) (c : Kept) (name : List ℕ) : Type 0 where
   pub before : List (List ℕ)
   pub after : List (List ℕ)
   pub written : List (List ℕ)
   pub text : List ℕ
   pub left : List (List ℕ)
-  pub names_are : result_names o.options.out.now o.options.parts ≡ before ++ name ∷ after
-  pub texts_are : contents c.outputs.items ++ c.certificate.items ∷ [] ≡ written ++ text ∷ left
+  pub names_are : named verdict ++ result_names o.options.out.now o.options.parts ≡ before ++ name ∷ after
+  pub texts_are : no_text verdict ++ (contents c.outputs.items ++ c.certificate.items ∷ []) ≡ written ++ text ∷ left
   pub refused : unwritable name
   pub whole : Holding new before written
   pub begins : Differs name (named (history_name o)) → Begins old new name text
@@ -227,22 +246,29 @@ pub record IsStoppedAt (old new : Stored) (unwritable : Faulty) (o : RunOptions)
   pub others : ChangesAmong old new (named (history_name o) ++ (before ++ name ∷ []))
 
 -- not all of a certified result was written
-abbrev pub IsResultStopped : Stored → Stored → Faulty → RunOptions → Kept → Fault → Type 0
-IsResultStopped old new unwritable o c (CannotWrite told) = IsStoppedAt old new unwritable o c (string_bytes told)
-IsResultStopped old new unwritable o c OutOfMemory = ⊤
-IsResultStopped old new unwritable o c fault = ⊥
+abbrev pub IsResultStopped : Stored → Stored → Faulty → Option (List ℕ) → RunOptions → Kept → Fault → Type 0
+IsResultStopped old new unwritable verdict o c (CannotWrite told) = IsStoppedAt old new unwritable verdict o c (string_bytes told)
+IsResultStopped old new unwritable verdict o c OutOfMemory = ⊤
+IsResultStopped old new unwritable verdict o c fault = ⊥
 
 -- under the name of the history stands what stood there or a beginning of it, and nothing else has changed
 abbrev pub BeginsHistory : Stored → Stored → RunOptions → RunOutcome → Type 0
 BeginsHistory old new o ran = ChangesAmong old new (named (history_name o)) × IfSome (history_name o) (λ name. Begins old new name (history_text (history_of ran)))
 
 -- the history could not be written, and nothing else was; or a file of a certified result could not
-abbrev pub IsUnkept : Stored → Stored → Faulty → RunOptions → RunOutcome → Fault → Type 0
-IsUnkept old new unwritable o (Certified c) fault = (BeginsHistory old new o (Certified c) × ReportsUnwritten unwritable (named (history_name o)) fault)
-    ⊎ IsResultStopped old new unwritable o c fault
-IsUnkept old new unwritable o ran fault = BeginsHistory old new o ran × ReportsUnwritten unwritable (named (history_name o)) fault
+abbrev pub IsUnkept : Stored → Stored → Faulty → Option (List ℕ) → RunOptions → RunOutcome → Fault → Type 0
+IsUnkept old new unwritable verdict o (Certified c) fault = (BeginsHistory old new o (Certified c) × ReportsUnwritten unwritable (named (history_name o)) fault)
+    ⊎ IsResultStopped old new unwritable verdict o c fault
+IsUnkept old new unwritable verdict o ran fault = BeginsHistory old new o ran × ReportsUnwritten unwritable (named (history_name o)) fault
 
--- why nothing is told: there is no run, and nothing was written; or not all that it leaves could be written
+-- why nothing of a run may be kept: pairs are missing, or the verdict that stands there is a file that it reads or writes besides
+abbrev pub IsRunRefused : Stored → Known → RunOptions → Fault → Type 0
+IsRunRefused holds known o fault = ((ran : RunOutcome) × Runs holds known o ran × IsPairlessRun o.need_pairs ran fault)
+    ⊎ IsVerdictShared holds known o.options.out.now (read_by_run o ++ written_by_run o) fault
+
+-- why nothing is told: there is no run, or it may not be kept, and nothing was written; or not all that it leaves could be written
 abbrev pub IsRunUnanswered : Stored → Stored → Faulty → Faulty → (List ℕ → List ℕ → Type 0) → Known → RunOptions → Fault → Type 0
 IsRunUnanswered old new unreadable unwritable alike known o fault = (ChangesAmong old new [] × IsStartRefusal old unreadable alike known o fault)
-    ⊎ ((ran : RunOutcome) × Runs old known o ran × IsUnkept old new unwritable o ran fault)
+    ⊎ (ChangesAmong old new [] × IsRunRefused old known o fault)
+    ⊎ ((ran : RunOutcome) × (verdict : Option (List ℕ)) × Runs old known o ran × IsOldVerdict old unreadable known o.options.out.now verdict
+    × IsUnkept old new unwritable verdict o ran fault)

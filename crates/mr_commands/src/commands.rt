@@ -1,5 +1,5 @@
 //! The sequential command, and the choice among all commands.
-ghost use Rattle.std.specs.Prelude.{◌≡◌, ℕ, ◌≤◌, ◌^◌, List, IfOk, IfErr, OnOk, length};
+ghost use Rattle.std.specs.Prelude.{◌≡◌, ℕ, ◌≤◌, ◌^◌, List, IfOk, IfErr, None, OnOk, length, map, true};
 ghost use Rattle.std.specs.Prelude.{string_bytes};
 ghost use Rattle.mr_input.specs.Files.{contents, split_total};
 ghost use Rattle.mr_sequential.specs.Emitted.{emitted};
@@ -7,27 +7,30 @@ ghost use Rattle.mr_commands.specs.Outcomes.{IsSequentialResult, done_line};
 ghost use Rattle.mr_certform.specs.declared.version.Version.{Version};
 ghost use Rattle.mr_certform.specs.Value.{CanSpell, SpellsIn};
 ghost use Rattle.std.specs.List.{AllByRecursion};
-ghost use Rattle.mr_commands.specs.Answers.{AnswersSeq, IsRunRefusal, IsSeqRefusal, IsWorkRefusal};
-ghost use Rattle.mr_commands.specs.Answers.{WorksOut, written_by_seq};
+ghost use Rattle.mr_commands.specs.Answers.{AnswersSeq, IsRunRefusal, IsSeqRefusal, IsUnworked};
+ghost use Rattle.mr_commands.specs.Answers.{HasPairs, WorksOut};
+ghost use Rattle.mr_sequential.specs.Skips.{skip_fault};
+ghost use Rattle.mr_commands.specs.Named.{input_names};
+ghost use Rattle.mr_commands.specs.OldVerdicts.{ChangesOver};
 ghost use Rattle.mr_commands.specs.Commands.{Answers, ChangesOwn, IsRefusal, PrintsOwn};
-ghost use Rattle.mr_files.specs.Holding.{ChangesAmong};
 ghost use Rattle.mr_files.specs.Names.{result_names};
 
 use crate::explaining::explain;
 use crate::input::{RunInput, run_input_of};
 use crate::judging::check;
 use crate::merging::merge;
+use crate::old_verdicts::{old_verdict, write_over};
 use crate::running::{Machine, run as run_by_workers};
 use crate::texts::{CommandOutput, done_line};
 use crate::verifying::verify;
-use mr_args::{Fault, SeqOptions, Subcommand};
+use mr_args::{Fault, Options, SeqOptions, Subcommand};
 use mr_bytes::Progress;
 use mr_certform::{Certificate, Version, VersionedCertificate, text_law};
-use mr_files::{Store, write_files};
+use mr_files::{Store, add_names};
 use mr_sequential::run_watched;
 use mr_spill::Scratch;
 use mr_store::CountedWrite;
-use std::alloc::Global;
+use std::alloc::{AllocError, Global};
 use std::sync::Wait;
 use std::thread::Threads;
 
@@ -37,6 +40,7 @@ use std::thread::Threads;
 struct Work {
     outputs: Vec<Vec<u8>>,
     certificate: Certificate,
+    pairs: u64,
     line: String,
 }
 
@@ -47,6 +51,9 @@ fn run_request(alloc: Global, run: RunInput, watch: &dyn Progress) -> Result<Wor
         (λ w. (version : Version) (bytes : List ℕ) → SpellsIn version bytes w.certificate
         → IsSequentialResult version run.request run.input run.skips.items (contents w.outputs.items) bytes) }
     ensures can { IfOk result (λ w. (version : Version) → AllByRecursion (CanSpell version) w.certificate.groups) }
+    ensures allowed { OnOk result (skip_fault run.request run.input run.skips.items ≡ None) }
+    ensures pairs { IfOk result (λ w. w.pairs
+        ≡ length (emitted run.request.job run.request.split run.input run.skips.items)) }
     ensures line { IfOk result (λ w. string_bytes w.line ≡ done_line run.request.parts
         (length (emitted run.request.job run.request.split run.input run.skips.items))
         (length run.skips.items)) }
@@ -57,16 +64,29 @@ fn run_request(alloc: Global, run: RunInput, watch: &dyn Progress) -> Result<Wor
     let left_out = run.skips.len();
     // Free what is done before asking for more memory.
     drop(run);
-    let line = done_line(alloc, outputs.len(), certificate.total(), left_out)?;
+    let pairs = certificate.total();
+    let line = done_line(alloc, outputs.len(), pairs, left_out)?;
     Ok(Work {
         outputs,
         certificate,
+        pairs,
         line,
     })
 }
 
-/// Tests the request, the skip list, the files, that none is written, their fit; then works. It
-/// writes nothing.
+/// Where pairs are needed there are some.
+pub(crate) fn expect_pairs(needed: bool, pairs: u64) -> Result<(), Fault>
+    ensures some { OnOk result (HasPairs needed pairs) }
+    ensures refused { IfErr result (λ e. (e ≡ Fault.NoPairs) × (needed ≡ true) × (pairs ≡ 0)) }
+{
+    if needed && pairs == 0 {
+        return Err(Fault::NoPairs);
+    }
+    Ok(())
+}
+
+/// Tests the request, the skip list, the files, that none is written, their fit; then works, and
+/// tests that there are pairs where they are needed. It writes nothing.
 fn test_and_work<S: Store>(
     store: &S,
     alloc: Global,
@@ -77,13 +97,22 @@ fn test_and_work<S: Store>(
         → WorksOut (S.holds store.now) (S.known_as store.now) asked.now
         (contents w.outputs.items) bytes (string_bytes w.line)) }
     ensures can { IfOk result (λ w. AllByRecursion (CanSpell asked.now.version) w.certificate.groups) }
-    ensures refused { IfErr result (λ e. IsWorkRefusal (S.holds store.now)
-        (S.unreadable store.now) (S.known_as store.now) asked.now.options asked.now.skips.now
-        (written_by_seq asked.now) e) }
+    ensures refused { IfErr result (IsUnworked (S.holds store.now)
+        (S.unreadable store.now) (S.known_as store.now) asked.now) }
 {
     let options = &asked.options;
     let run = run_input_of(store, alloc, options, asked.skips, Some(options.out))?;
-    run_request(alloc, run, watch)
+    let work = run_request(alloc, run, watch)?;
+    expect_pairs(asked.need_pairs, work.pairs)?;
+    Ok(work)
+}
+
+fn input_names_of(alloc: Global, options: &Options<'_>) -> Result<Vec<String>, AllocError>
+    ensures { IfOk result (λ v. map string_bytes v.items ≡ input_names options.now) }
+{
+    let mut names = Vec::new(alloc);
+    add_names(alloc, &mut names, options.files.as_slice())?;
+    Ok(names)
 }
 
 fn spelled_in(certificate: &Certificate, version: Version) -> VersionedCertificate<'_>
@@ -96,7 +125,8 @@ fn spelled_in(certificate: &Certificate, version: Version) -> VersionedCertifica
     }
 }
 
-/// Runs a job sequentially and writes its result. It reports the line once all files are written.
+/// Runs a job sequentially and writes its result, over a verdict that stands there. It reports the
+/// line once all files are written.
 pub fn seq<S: Store>(
     store: &mut S,
     alloc: Global,
@@ -105,23 +135,21 @@ pub fn seq<S: Store>(
 ) -> Result<CommandOutput, Fault>
     ensures status { IfOk result (λ said. said.status ≡ 0) }
     ensures done { IfOk result (λ said. AnswersSeq (S.holds store.old) (S.holds store.new)
-        (S.known_as store.old) asked.now (string_bytes said.text)) }
-    ensures others { ChangesAmong (S.holds store.old) (S.holds store.new)
+        (S.unreadable store.old) (S.known_as store.old) asked.now (string_bytes said.text)) }
+    ensures others { ChangesOver (S.holds store.old) (S.holds store.new) asked.now.options.out.now
         (result_names asked.now.options.out.now asked.now.options.parts) }
     ensures refused { IfErr result (λ e. IsSeqRefusal (S.holds store.old) (S.holds store.new)
         (S.unreadable store.old) (S.unwritable store.old)
         (S.known_as store.old) asked.now e) }
 {
     let work = test_and_work(store, alloc, asked, watch)?;
+    let out = asked.options.out;
+    let names = input_names_of(alloc, &asked.options)?;
+    let verdict = old_verdict(store, alloc, out, names.as_slice())?;
     let spelled = spelled_in(&work.certificate, asked.version);
     text_law(&spelled);
-    write_files(
-        store,
-        alloc,
-        asked.options.out,
-        work.outputs.as_slice(),
-        &spelled,
-    )?;
+    let outputs = work.outputs.as_slice();
+    write_over(store, alloc, verdict.as_deref(), out, outputs, &spelled)?;
     Ok(CommandOutput {
         text: work.line,
         status: 0,
@@ -138,7 +166,7 @@ pub fn execute<S: Store, C: Scratch, R: Threads + Wait + Sync, W: CountedWrite>(
     out: &mut W,
 ) -> Result<CommandOutput, Fault>
     ensures answers { IfOk result (λ said. Answers (S.holds store.old) (S.holds store.new)
-        (S.known_as store.old) asked.now (W.seen out.old) (W.seen out.new)
+        (S.unreadable store.old) (S.known_as store.old) asked.now (W.seen out.old) (W.seen out.new)
         (string_bytes said.text) said.status) }
     ensures others { ChangesOwn (S.holds store.old) (S.holds store.new) asked.now }
     ensures prints { PrintsOwn asked.now (W.seen out.old) (W.seen out.new) }

@@ -1,8 +1,10 @@
 //! `explain`: prints the records that give a key, or that give nothing, and compares the key's lines
 //! in a result with the text of its group.
 //!
-//! What can be refused is tested before the first byte is printed, the part of the key too.
-ghost use Rattle.std.specs.Prelude.{◌≡◌, ◌<◌, ◌^◌, ◌++◌, None, [], IfErr, IfOk, OnOk, List, ℕ};
+//! What can be refused is tested before the first byte is printed, the part of the key too. The files
+//! are sifted as they are read (`sifted.rt`) where a key's evidence is all that is asked for: over
+//! whole files, without left-out records and without a part to compare. Else they are held whole.
+ghost use Rattle.std.specs.Prelude.{◌≡◌, ◌<◌, ◌^◌, ◌++◌, None, [], true, IfErr, IfOk, OnOk, List, ℕ};
 ghost use Rattle.std.specs.Prelude.{length, map, option_map, string_bytes};
 ghost use Rattle.mr_args.specs.Asked.{RangeStands};
 ghost use Rattle.mr_explain.specs.Compared.{answer_of};
@@ -16,13 +18,17 @@ ghost use Rattle.mr_commands.specs.Explains.{IsPrintFault, IsSought, ReportsUnre
 ghost use Rattle.mr_commands.specs.Explains.{line_said, part_of_key, source_told, sources_from};
 ghost use Rattle.mr_commands.specs.Explains.{status_said};
 ghost use Rattle.mr_commands.specs.Inputs.{IsRunInput};
+ghost use Rattle.mr_commands.specs.Sifted.{AsksAlone};
 
 use crate::feeds::count_feeds_before;
 use crate::input::{RunInput, run_input_of};
+use crate::sifted::sift_input;
 use crate::texts::CommandOutput;
 use mr_args::{ExplainOptions, Fault, Options};
 use mr_bytes::RecordName;
-use mr_explain::{Comparison, ExplainFault, Query, SourceFile, Wanted, compare, group_text};
+use mr_explain::{
+    Comparison, ExplainFault, Query, SourceFile, Wanted, compare, group_text, plan_excerpts,
+};
 use mr_files::{Store, part_name, read_file};
 use mr_jobs::Request;
 use mr_partition::partition_by;
@@ -255,6 +261,57 @@ fn explain_input<S: Store, W: CountedWrite>(
     print_all(alloc, &query, part.as_deref(), out)
 }
 
+/// Whether a key's evidence is all that is asked for, over whole files and all of their records.
+fn sifts(asked: &ExplainOptions<'_>) -> bool
+    ensures { result ≡ true → AsksAlone asked.now }
+{
+    let all = asked.options.from == 0 && asked.options.to.is_none();
+    all && asked.key.is_some() && asked.result.is_none() && asked.skips.is_empty()
+}
+
+/// Explains over files of which only the lines are held that may matter.
+fn explain_sifted<S: Store, W: CountedWrite>(
+    store: &S,
+    alloc: Global,
+    asked: &ExplainOptions<'_>,
+    out: &mut W,
+) -> Result<u8, Fault>
+    requires { AsksAlone asked.now }
+    ensures answers { IfOk result (λ status. AnswersExplain (S.holds store.now) asked.now
+        (W.seen out.old) (W.seen out.new) status) }
+    ensures refused { IfErr result (IsExplainUnanswered (S.holds store.now)
+        (S.unreadable store.now) (S.known_as store.now) asked.now (W.seen out.old) (W.seen out.new)) }
+{
+    let wanted = wanted_of(asked.key);
+    let run = sift_input(store, alloc, &asked.options, wanted)?;
+    let plan = plan_excerpts(alloc, &run.input)?;
+    let query = Query {
+        job: run.request.job(),
+        plan: &plan,
+        skips: &[],
+        sources: run.sources.as_slice(),
+        wanted,
+        limit: asked.limit,
+    };
+    print_all(alloc, &query, None, out)
+}
+
+/// Explains over files that are held whole.
+fn explain_whole<S: Store, W: CountedWrite>(
+    store: &S,
+    alloc: Global,
+    asked: &ExplainOptions<'_>,
+    out: &mut W,
+) -> Result<u8, Fault>
+    ensures answers { IfOk result (λ status. AnswersExplain (S.holds store.now) asked.now
+        (W.seen out.old) (W.seen out.new) status) }
+    ensures refused { IfErr result (IsExplainUnanswered (S.holds store.now)
+        (S.unreadable store.now) (S.known_as store.now) asked.now (W.seen out.old) (W.seen out.new)) }
+{
+    let run = run_input_of(store, alloc, &asked.options, asked.skips, None)?;
+    explain_input(store, alloc, asked, &run, out)
+}
+
 /// Prints the evidence on `out`, and then how a result's lines of the key compare, if it is asked
 /// for. It writes no file.
 pub fn explain<S: Store, W: CountedWrite>(
@@ -269,8 +326,11 @@ pub fn explain<S: Store, W: CountedWrite>(
     ensures refused { IfErr result (IsExplainUnanswered (S.holds store.now)
         (S.unreadable store.now) (S.known_as store.now) asked.now (W.seen out.old) (W.seen out.new)) }
 {
-    let run = run_input_of(store, alloc, &asked.options, asked.skips, None)?;
-    let status = explain_input(store, alloc, asked, &run, out)?;
+    let status = if sifts(asked) {
+        explain_sifted(store, alloc, asked, out)?
+    } else {
+        explain_whole(store, alloc, asked, out)?
+    };
     Ok(CommandOutput {
         text: String::new(alloc),
         status,

@@ -46,7 +46,7 @@ fn stretch_of<'a>(options: &'a Options<'_>) -> Stretch<'a>
     }
 }
 
-fn fault_of(unread: UnreadStretch) -> Fault
+pub(crate) fn fault_of(unread: UnreadStretch) -> Fault
     ensures { result ≡ told_of_unread unread.file unread.fault }
 {
     let file = unread.file;

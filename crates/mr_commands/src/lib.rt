@@ -9,7 +9,9 @@ mod feeds;
 mod input;
 mod judging;
 mod merging;
+mod old_verdicts;
 mod running;
+mod sifted;
 mod texts;
 mod verifying;
 

@@ -15,19 +15,22 @@ ghost use Rattle.mr_commands.specs.Inputs.{IsInput, IsInputRefusal};
 ghost use Rattle.mr_commands.specs.Named.{named, stretch_of};
 ghost use Rattle.mr_args.specs.Asked.{RangeStands};
 ghost use Rattle.mr_commands.specs.HistoryLines.{history_text};
-ghost use Rattle.mr_commands.specs.Runs.{names_left, read_by_run, written_by_run};
+ghost use Rattle.mr_commands.specs.Runs.{HasPairsMade, IsPairlessRun, names_left, read_by_run};
+ghost use Rattle.mr_commands.specs.Runs.{written_by_run};
+ghost use Rattle.mr_commands.specs.OldVerdicts.{ChangesOver};
+ghost use Rattle.mr_files.specs.Names.{name_of_verdict};
 ghost use Rattle.mr_script.specs.Scripts.{SpellsScript};
 
+use crate::commands::expect_pairs;
 use crate::input::{FileNames, input_of, name_given};
+use crate::old_verdicts::{old_verdict, write_over};
 use crate::texts::{CommandOutput, certified_line, failed_line, fault_text, history_text};
 use mr_args::{Fault, RunOptions, request_of};
 use mr_book::History;
 use mr_bytes::{OpenGate, Progress};
 use mr_check::No;
 use mr_core::JobFault;
-use mr_files::{
-    FileFault, Store, add_names, folder_of, names_of_result, read_file, write_file, write_files,
-};
+use mr_files::{FileFault, Store, add_names, folder_of, names_of_result, read_file, write_file};
 use mr_input::Input;
 use mr_jobs::Request;
 use mr_pool::{Certified, Environment, RunFault, RunSpec, run_watched, shape_of};
@@ -326,18 +329,34 @@ fn let_go<R: Threads>(rt: &R, history: History) -> Option<JoinHandle<()>> {
     thread::spawn(rt, move || drop(history)).ok()
 }
 
-/// Writes a certified result. Meanwhile the history, with all reduce outputs, is freed.
+/// Where a result is certified, it has pairs if they are needed.
+fn expect_pairs_made(needed: bool, ran: &RunOutcome) -> Result<(), Fault>
+    ensures some { OnOk result (HasPairsMade needed ran.now) }
+    ensures refused { IfErr result (IsPairlessRun needed ran.now) }
+{
+    match ran {
+        RunOutcome::Certified(done) => expect_pairs(needed, done.pairs),
+        _ => Ok(()),
+    }
+}
+
+/// Writes a certified result, over a verdict that stands there. Meanwhile the history, with all
+/// reduce outputs, is freed.
 fn keep_result<S: Store, R: Threads>(
     rt: &R,
     store: &mut S,
     alloc: Global,
+    verdict: Option<&str>,
     out: &str,
     ran: RunOutcome,
 ) -> Result<(), FileFault>
-    ensures kept { OnOk result (IsResultKept (S.holds store.new) out.now ran) }
-    ensures others { ChangesAmong (S.holds store.old) (S.holds store.new) (names_left out.now ran) }
-    ensures refused { IfErr result (λ e. IsResultRefused (S.holds store.old)
-        (S.holds store.new) (S.unwritable store.old) out.now ran e) }
+    requires verdict { IfSome (option_map (λ s. s.now) verdict) (λ name. name ≡ name_of_verdict out.now) }
+    ensures kept { OnOk result
+        (IsResultKept (S.holds store.new) (option_map (λ s. s.now) verdict.entry) out.now ran) }
+    ensures others { ChangesAmong (S.holds store.old) (S.holds store.new)
+        (names_left (option_map (λ s. s.now) verdict.entry) out.now ran) }
+    ensures refused { IfErr result (IsResultRefused (S.holds store.old) (S.holds store.new)
+        (S.unwritable store.old) (option_map (λ s. s.now) verdict.entry) out.now ran) }
 {
     let RunOutcome::Certified(done) = ran else {
         return Ok(());
@@ -349,13 +368,8 @@ fn keep_result<S: Store, R: Threads>(
         ..
     } = done;
     let freeing = let_go(rt, history);
-    write_files(
-        store,
-        alloc,
-        out,
-        outputs.as_slice(),
-        &Bytes(certificate.as_slice()),
-    )?;
+    let certificate = Bytes(certificate.as_slice());
+    write_over(store, alloc, verdict, out, outputs.as_slice(), &certificate)?;
     if let Some(handle) = freeing {
         handle.join(rt);
     }
@@ -363,7 +377,8 @@ fn keep_result<S: Store, R: Threads>(
 }
 
 /// Runs a job by workers, then writes the history, if it has a name, and the result, if it is
-/// certified. The history comes first, so that a result is whole whatever the history's name.
+/// certified, over a verdict that stands there. The history comes before, so that a result is whole
+/// whatever the history's name.
 pub fn run<S: Store, C: Scratch, R: Threads + Wait + Sync>(
     machine: &Machine<'_, C, R>,
     store: &mut S,
@@ -371,16 +386,21 @@ pub fn run<S: Store, C: Scratch, R: Threads + Wait + Sync>(
     watch: &dyn Progress,
 ) -> Result<CommandOutput, Fault>
     ensures done { IfOk result (λ said. AnswersRun (S.holds store.old) (S.holds store.new)
-        (S.known_as store.old) asked.now (string_bytes said.text) said.status) }
-    ensures others { ChangesAmong (S.holds store.old) (S.holds store.new) (written_by_run asked.now) }
+        (S.unreadable store.old) (S.known_as store.old) asked.now (string_bytes said.text) said.status) }
+    ensures others { ChangesOver (S.holds store.old) (S.holds store.new)
+        asked.now.options.out.now (written_by_run asked.now) }
     ensures refused { IfErr result
         (λ e. IsRunUnanswered (S.holds store.old) (S.holds store.new) (S.unreadable store.old)
         (S.unwritable store.old) (S.alike store.old) (S.known_as store.old) asked.now e) }
 {
     let (rt, alloc) = (machine.rt, machine.alloc);
     let ran = test_and_run(machine, store, asked, watch)?;
+    expect_pairs_made(asked.need_pairs, &ran)?;
+    let names = names_of_run(alloc, asked)?;
+    let out = asked.options.out;
+    let verdict = old_verdict(store, alloc, out, names.as_slice())?;
     let said = output_of(alloc, &ran)?;
     keep_history(store, alloc, asked.history, history_of(&ran))?;
-    keep_result(rt, store, alloc, asked.options.out, ran)?;
+    keep_result(rt, store, alloc, verdict.as_deref(), out, ran)?;
     Ok(said)
 }

@@ -1,39 +1,34 @@
-use Rattle.std.proofs.Common.{◌≡◌, ℕ, List, length}
+use Rattle.std.proofs.Common.{inl, inr, sym, subst, ◌∙◌}
 use Rattle.std.specs.Prelude.{string_bytes}
-use Rattle.std.proofs.lemmas.Result.{IfErr-weaker, IfOk-weaker}
+use Rattle.std.proofs.lemmas.Result.{err_from_is_err_and}
 use Rattle.mr_input.specs.Files.{contents}
-use Rattle.std.specs.List.{AllByRecursion}
-use Rattle.mr_certform.specs.declared.version.Version.{Version}
-use Rattle.mr_certform.specs.Value.{CanSpell, SpellsIn}
-use Rattle.mr_sequential.specs.Emitted.{emitted}
-use Rattle.mr_commands.specs.Outcomes.{IsSequentialResult, done_line}
-use Rattle.mr_commands.specs.Answers.{WorksOut, IsRunRefusal, IsWorkRefusal, written_by_seq}
-use Rattle.mr_commands.proofs.Refused.{work_run_stage, works_out, both_ok}
+use Rattle.mr_commands.specs.Answers.{HasPairs, written_by_seq}
+use Rattle.mr_commands.proofs.Refused.{work_run_stage, works_out, pairless}
 use Rattle.mr_commands.proofs.commands.test_and_work.Goals as goal
 
 pub returns-clause-work : goal.returns-clause-work
-returns-clause-work g c =
-    let holds = g.S.Store.holds c.args.store.now in
-    let known = g.S.Store.known_as c.args.store.now in
+returns-clause-work g c = λ bytes spelled.
     let o = c.args.asked.now in
     let run = c.in_ok-run.run' in
-    both_ok c.run_request.result (λ w. (version : Version) (bytes : List ℕ) → SpellsIn version bytes w.certificate → IsSequentialResult version run.request run.input run.skips.items (contents w.outputs.items) bytes) (λ w. string_bytes w.line ≡ done_line run.request.parts (length (emitted run.request.job run.request.split run.input run.skips.items)) (length run.skips.items))
-    (λ w. (bytes : List ℕ) → SpellsIn o.version bytes w.certificate → WorksOut holds known o (contents w.outputs.items) bytes (string_bytes w.line))
-    (λ w h l bytes s. works_out holds known o run (contents w.outputs.items) bytes (string_bytes w.line) c.in_ok-run.ensures.input c.in_ok-run.ensures.apart (h o.version bytes s) l)
-    c.run_request.ensures.result c.run_request.ensures.line
+    let work = c.in_ok-work.work in
+    works_out (g.S.Store.holds c.args.store.now) (g.S.Store.known_as c.args.store.now) o run (contents work.outputs.items) bytes (string_bytes work.line)
+    c.in_ok-run.ensures.input c.in_ok-run.ensures.apart (c.in_ok-work.ensures.result o.version bytes spelled) c.in_ok-work.ensures.line
+    (subst (HasPairs o.need_pairs) c.in_ok-work.ensures.pairs c.in_ok-expect_pairs.ensures.some)
 
 pub returns-clause-can : goal.returns-clause-can
-returns-clause-can g c =
-    let version = c.args.asked.now.version in
-    IfOk-weaker c.run_request.result (λ w. (v : Version) → AllByRecursion (CanSpell v) w.certificate.groups) (λ w. AllByRecursion (CanSpell version) w.certificate.groups) (λ w can. can version) c.run_request.ensures.can
+returns-clause-can g c = c.in_ok-work.ensures.can c.args.asked.now.version
 
-pub returns-clause-refused : goal.returns-clause-refused
-returns-clause-refused g c =
-    let holds = g.S.Store.holds c.args.store.now in
-    let known = g.S.Store.known_as c.args.store.now in
-    let unreadable = g.S.Store.unreadable c.args.store.now in
+pub returns-in_err-work-clause-refused : goal.returns-in_err-work-clause-refused
+returns-in_err-work-clause-refused g c =
+    let p = err_from_is_err_and c.from_residual-in_err-work.result c.from_residual-in_err-work.ensures.1 in
     let o = c.args.asked.now in
-    let run = c.in_ok-run.run' in
-    IfErr-weaker c.run_request.result (λ e. IsRunRefusal run.request run.input run.skips.items e) (λ e. IsWorkRefusal holds unreadable known o.options o.skips.now (written_by_seq o) e)
-    (λ e h. work_run_stage holds unreadable known o.options o.skips.now (written_by_seq o) run e c.in_ok-run.ensures.input c.in_ok-run.ensures.apart h)
-    c.run_request.ensures.refused
+    rw p.1 (rw p.2 (inl (work_run_stage (g.S.Store.holds c.args.store.now) (g.S.Store.unreadable c.args.store.now) (g.S.Store.known_as c.args.store.now) o.options o.skips.now (written_by_seq o) c.in_ok-run.run' c.in_err-work.field-0.0
+    c.in_ok-run.ensures.input c.in_ok-run.ensures.apart c.in_err-work.ensures.refused)))
+
+pub returns-in_err-expect_pairs-clause-refused : goal.returns-in_err-expect_pairs-clause-refused
+returns-in_err-expect_pairs-clause-refused g c =
+    let p = err_from_is_err_and c.from_residual-in_err-expect_pairs.result c.from_residual-in_err-expect_pairs.ensures.1 in
+    let told = c.in_err-expect_pairs.ensures.refused in
+    let none = sym c.in_ok-work.ensures.pairs ∙ told.2 in
+    rw p.1 (rw p.2 (rw told.0 (inr (pairless (g.S.Store.holds c.args.store.now) (g.S.Store.known_as c.args.store.now) c.args.asked.now c.in_ok-run.run'
+    c.in_ok-run.ensures.input c.in_ok-run.ensures.apart c.in_ok-work.ensures.allowed told.1 none))))
