@@ -28,8 +28,9 @@ def sections(text):
     lines = []
     while re.match(r"(Arguments|Options|Commands):\n", rest):
         block, _, rest = rest.partition("\n\n")
-        lines += block.splitlines()[1:]
-    return about.strip(), usage.strip(), lines, rest.rstrip("\n")
+        # a line that is further to the right than any name goes on with the one before
+        lines += re.sub(r"\n {10,}", " ", block).splitlines()[1:]
+    return " ".join(about.split()), " ".join(usage.split()), lines, rest.rstrip("\n")
 
 
 def argument(line):

@@ -65,6 +65,7 @@ pub record AreSeqOptionsOf (found : Found) (o : SeqOptions) : Type 0 where
   pub options : AreOptionsOf found o.options
   pub skips : o.skips.now ≡ unwrap_or (first_value found (codes "skips")) []
   pub version : IsVersionOf (one_text found (codes "cert")) o.version
+  pub need_pairs : IsFlagOf (one_text found (codes "need-pairs")) o.need_pairs
 
 -- the same of a run by workers
 pub record AreRunOptionsOf (found : Found) (o : RunOptions) : Type 0 where
@@ -75,6 +76,7 @@ pub record AreRunOptionsOf (found : Found) (o : RunOptions) : Type 0 where
   pub script : option_map (λ s. s.now) o.script ≡ first_value found (codes "script")
   pub history : option_map (λ s. s.now) o.history ≡ first_value found (codes "history")
   pub scratch : option_map (λ s. s.now) o.scratch ≡ first_value found (codes "scratch")
+  pub need_pairs : IsFlagOf (one_text found (codes "need-pairs")) o.need_pairs
 
 -- the same of a judgement
 pub record AreCheckOptionsOf (found : Found) (o : CheckOptions) : Type 0 where

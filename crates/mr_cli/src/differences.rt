@@ -1,8 +1,6 @@
 //! How a certificate differs from the request, if the judge reports another job or input.
-use crate::hints::{evidence_cure, run_cure};
-use mr_args::{Options, Subcommand, request_of};
+use mr_args::{Options, request_of};
 use mr_certform::{Item, Walker};
-use mr_commands::CommandOutput;
 use mr_files::{Inspect, PathKind, Store, certificate_name, read_file};
 use mr_jobs::Request;
 use std::alloc::{AllocError, Global};
@@ -171,7 +169,8 @@ fn input_difference<L: Inspect>(
     Ok(String::new(alloc))
 }
 
-fn check_hint<S: Store + Inspect>(
+/// The hint for an answer of the judge, without a line end; empty if the certificate gives none.
+pub fn check_hint<S: Store + Inspect>(
     store: &S,
     alloc: Global,
     options: &Options<'_>,
@@ -192,25 +191,5 @@ fn check_hint<S: Store + Inspect>(
     match request_of(alloc, options) {
         Ok(request) if is_other_job => job_difference(alloc, &front, &request),
         _ => input_difference(store, alloc, &front, options),
-    }
-}
-
-/// The hint for an answer, without a line end; empty if there is none.
-pub fn verdict_hint<S: Store + Inspect>(
-    store: &S,
-    alloc: Global,
-    asked: &Subcommand<'_>,
-    said: &CommandOutput,
-) -> Result<String, AllocError> {
-    let text = said.text.as_str();
-    match asked {
-        Subcommand::Check(asked) => check_hint(store, alloc, &asked.options, text),
-        Subcommand::Seq(_) | Subcommand::Merge(_) | Subcommand::Verify(_) => {
-            Ok(String::new(alloc))
-        }
-        Subcommand::Explain(asked) => { String::from_str(alloc, evidence_cure(asked, said.status)) }
-        Subcommand::Run(asked) => {
-            String::from_str(alloc, run_cure(text, asked.scratch.is_some()))
-        }
     }
 }

@@ -19,6 +19,8 @@ pub enum Failure {
     NotUtf8,
     /// No subcommand. The parser reports that before.
     NoCommand,
+    /// The directory of a fresh result is there, and not empty.
+    NotFresh(String),
     Command(Fault),
 }
 
@@ -72,7 +74,7 @@ impl Failure {
     {
         match self {
             Failure::Line(error) => { if error.use_stderr() { 2 } else { 0 } }
-            Failure::NotUtf8 | Failure::NoCommand => 2,
+            Failure::NotUtf8 | Failure::NoCommand | Failure::NotFresh(_) => 2,
             Failure::Command(fault) => fault.status(),
         }
     }
@@ -94,6 +96,7 @@ impl fmt::Display for Failure {
             Failure::Line(error) => write!(f, "{error}"),
             Failure::NotUtf8 => write!(f, "mapred: a word of the command line is not UTF-8\n"),
             Failure::NoCommand => write!(f, "mapred: no command\n"),
+            Failure::NotFresh(dir) => write!(f, "mapred: NotFresh {dir}\n"),
             Failure::Command(fault) => write!(f, "{fault}"),
         }
     }

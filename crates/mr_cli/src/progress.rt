@@ -128,6 +128,7 @@ const MOST_PARTS: usize = 1024;
 struct NoteList<'a, L: Inspect> {
     look: &'a L,
     alloc: Global,
+    is_fresh: bool,
     lines: Vec<String>,
 }
 
@@ -181,6 +182,9 @@ impl<'a, L: Inspect> NoteList<'a, L> {
     }
 
     fn note_made(&mut self, options: &Options<'_>) -> Result<(), AllocError> {
+        if self.is_fresh {
+            return Ok(());
+        }
         let certificate = certificate_name(self.alloc, options.out)?;
         self.note_directory(options.out)?;
         self.note_result(options.out, certificate.as_str())?;
@@ -201,6 +205,7 @@ impl<'a, L: Inspect> NoteList<'a, L> {
                 let Options { out, parts, .. } = &asked.options;
                 self.note_others(out, *parts as usize)
             }
+            Subcommand::Merge(_) if self.is_fresh => Ok(()),
             // Only the verdicts say how many parts a merge writes, so others can't be noted.
             Subcommand::Merge(asked) => {
                 let verdict = verdict_name(self.alloc, asked.out)?;
@@ -223,14 +228,20 @@ fn asks_for_parts(asked: &Subcommand<'_>) -> bool {
     0 < options.parts && options.parts as usize <= MOST_PARTS
 }
 
-/// Lines on the directories of the result and of regions, without line ends.
+/// Lines on the directories of the result, unless it must be fresh, and of regions, without line
+/// ends.
 pub fn notes<L: Inspect>(
     look: &L,
     alloc: Global,
     asked: &Subcommand<'_>,
+    is_fresh: bool,
 ) -> Result<Vec<String>, AllocError> {
-    let lines = Vec::new(alloc);
-    let mut notes = NoteList { look, alloc, lines };
+    let mut notes = NoteList {
+        look,
+        alloc,
+        is_fresh,
+        lines: Vec::new(alloc),
+    };
     if asks_for_parts(asked) {
         notes.note_all(asked)?;
     }

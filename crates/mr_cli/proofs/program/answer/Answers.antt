@@ -8,12 +8,12 @@ use Rattle.mr_cli.proofs.program.answer.Goals as goal
 pub returns-in_err-execute-in-Some-clause-unanswered : goal.returns-in_err-execute-in-Some-clause-unanswered
 returns-in_err-execute-in-Some-clause-unanswered g c =
     let p = err_from_is_err_and c.from_residual-in_err-execute-in-Some.result c.from_residual-in_err-execute-in-Some.ensures.1 in
-    let parsed = c.in_ok-matches.matches in
+    let parsed = c.args.line.now in
     let named : IsAskedIn parsed c.in-Some.asked = subst (λ (r : Option Subcommand). IfSome r (λ asked. IsAskedIn parsed asked)) c.in-Some.is c.in_ok-asked.ensures.asked in
-    rw p.1 (rw p.2 (inr (record { parsed = parsed; asked = c.in-Some.asked; named = named; refused = c.in_err-execute-in-Some.ensures.refused; prints = c.in_err-execute-in-Some.ensures.prints })))
+    rw p.1 (rw p.2 (inr (record { asked = c.in-Some.asked; named = named; refused = c.in_err-execute-in-Some.ensures.refused; prints = c.in_err-execute-in-Some.ensures.prints })))
 
-pub returns-in-Some-clause-answered : goal.returns-in-Some-clause-answered
-returns-in-Some-clause-answered g c =
-    let parsed = c.in_ok-matches.matches in
+pub returns-in_ok-execute-in-Some-clause-answered : goal.returns-in_ok-execute-in-Some-clause-answered
+returns-in_ok-execute-in-Some-clause-answered g c =
+    let parsed = c.args.line.now in
     let named : IsAskedIn parsed c.in-Some.asked = subst (λ (r : Option Subcommand). IfSome r (λ asked. IsAskedIn parsed asked)) c.in-Some.is c.in_ok-asked.ensures.asked in
-    record { parsed = parsed; asked = c.in-Some.asked; named = named; answers = c.in_ok-execute-in-Some.ensures.answers; others = c.in_ok-execute-in-Some.ensures.others; prints = c.in_ok-execute-in-Some.ensures.prints }
+    record { asked = c.in-Some.asked; named = named; answers = c.in_ok-execute-in-Some.ensures.answers; others = c.in_ok-execute-in-Some.ensures.others; prints = c.in_ok-execute-in-Some.ensures.prints }
