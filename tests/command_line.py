@@ -121,6 +121,11 @@ def help_texts(harness):
         said = got[1].replace(b"Usage: %s" % os.fsencode(os.path.basename(harness.program)), b"Usage: mapred")
         with open(os.path.join(texts, name + ".txt"), "rb") as file:
             harness.check(f"the text of {line}", (got[0], said, got[2]) == (0, file.read(), b""), repr(got[1]))
+        wide = [text for text in said.split(b"\n") if len(text) > 80]
+        harness.check(f"{line} fits in 80 columns", not wide, repr(wide))
+        if line[1:]:
+            for other in (["help", line[0]], [line[0], "-h"]):
+                harness.check(f"{other} is {line}", harness.run(other)[:3] == got[:3])
 
 
 GROUPS = {"faults": faults, "faults of check": check_faults, "order of faults": order_of_faults, "help": help_texts}

@@ -241,4 +241,83 @@ def failing_calls(harness):
         harness.check(f"it comes to some {kind}", number > 1)
 
 
-GROUPS = {"explain": rows, "explain and a result": compared, "faults of explain": faults, "explain, random calls": random_calls, "explain and grep": as_grep_says, "failing calls of explain": failing_calls}
+def in_pieces(rnd, key):
+    """A file of many lines, some of them long, in few of which the key stands; some at borders of 64 KiB."""
+    words = [b"the", b"of", b"a-b", b"x" * 40, b"--", b"\xc3\xa9t\xc3\xa9", b"GET", b'"GET /x HTTP/1.0"']
+    out = bytearray()
+    for _ in range(rnd.choice([1, 300, 4000, 6000])):
+        border = 65536 - len(out) % 65536
+        if border < 300 and rnd.random() < 0.3:
+            out += b"y" * max(0, border - rnd.randint(0, len(key) + 2)) + key + rnd.choice([b"\n", b" z\n", b"\r\n"])
+        elif rnd.random() < 0.002:
+            out += rnd.choice([key, key + b" " + key, b"a" + key, key.upper(), b'h "GET ' + key + b' HTTP/1.0"', b"z " * rnd.choice([10, 40000]) + key]) + b"\n"
+        else:
+            out += b" ".join(rnd.choices(words, k=rnd.randint(0, 12))) + rnd.choice([b"\n", b"\n", b"\r\n", b"\n\n"])
+    return bytes(out) if rnd.random() < 0.7 else bytes(out).removesuffix(b"\n")
+
+
+def long_files(harness):
+    """60 calls over files of many pieces: rare keys, at borders too. And each limit, in its order."""
+    rnd = seeded("explaining long files")
+    for turn in range(60):
+        job = rnd.choice(["words", "index", "url", "grep"])
+        key = rnd.choice([b"needle", b"q", b"/needle/1", b"the"]) if job in ("words", "index") else rnd.choice([b"/needle", b"needle of the", b"/x"])
+        request = Request(job, rnd.choice([1, 3]), 67108864, literal=b"e" if job == "grep" else b"")
+        files = [in_pieces(rnd, key) for _ in range(rnd.choice([1, 1, 2, 3]))]
+        ranges = [(number, 0, len(data)) for number, data in enumerate(files)]
+        limit = rnd.choice([None, None, 2])
+        want = listing(request, files, ranges, [], key, limit)
+        where = harness.directory({f"f{number}": data for number, data in enumerate(files)})
+        words = ["explain", *request.options(), *(["--limit", str(limit)] if limit is not None else []), b"--key=" + key, *(f"f{number}" for number in range(len(files)))]
+        got = harness.run(words, cwd=where)[:3]
+        harness.check(f"{turn} {request} {key} {[len(data) for data in files]}", got == (0, want, b""), repr((got[1][-300:], want[-300:], got[2])))
+    where = harness.directory({"a": b"cat\n" * 300000, "b": b"cat"})
+    for name, size in (("large", 1 << 30), ("larger", (1 << 30) + 1)):
+        with open(os.path.join(where, name), "wb") as file:
+            file.truncate(size)
+    cat = ["explain", "--job", "words", "--key", "cat"]
+    for name, words, status, text in [
+        ("1,024 files", ["b"] * 1024, 0, b""),
+        ("1,025 files", ["b"] * 1025, 2, b"TooManyFiles"),
+        ("a byte too many", ["larger"], 2, b"TooLarge"),
+        ("a byte too many in two files", ["large", "b"], 2, b"TooLarge"),
+        ("too large before a missing file", ["larger", "none"], 2, b"TooLarge"),
+        ("a missing file before too large", ["none", "larger"], 3, b"cannot read none"),
+        ("a missing file before too many", ["b"] * 1025 + ["none"], 3, b"cannot read none"),
+        ("too many splits", ["--split", "1", "a"], 2, b"TooManySplits"),
+        ("too many files before too many splits", ["--split", "1", "a", *["b"] * 1025], 2, b"TooManyFiles"),
+        ("a directory", ["."], 3, b"cannot read ."),
+    ]:
+        got = harness.run([*cat, *words], cwd=where)[:3]
+        if status == 0:
+            harness.check(name, got[0] == 0 and got[1].endswith(b"cat: 1024 pairs in 1024 records\n"), repr(got[1][-100:]))
+        else:
+            harness.check(name, got == (status, b"", b"mapred: " + text + b"\n"), repr(got))
+    os.mkfifo(os.path.join(where, "pipe"))
+    feed = subprocess.Popen(["sh", "-c", "printf 'a cat\\nno\\n' > pipe"], cwd=where)
+    got = harness.run([*cat, "pipe"], cwd=where, timeout=60)[:3]
+    feed.wait()
+    harness.check("a pipe", got == (0, b"pipe:1:0:a cat\ncat: 1 pairs in 1 records\n", b""), repr(got))
+
+
+def failing_pieces(harness):
+    """Each allocation, opening, read and write fails in turn where files are read in pieces."""
+    library = shim(harness)
+    if library is None:
+        return
+    words = ["explain", "--job", "words", "--key", "dog", *FILES]
+    whole, _ = with_failing(harness, library, "none", words, FILES)
+    harness.check("pieces without a failing call", whole[:3] == (0, b"a:1:0:The cat saw the dog.\na:3:22:The dog saw nothing.\ndog: 2 pairs in 2 records\n", b""), repr(whole))
+    short, _ = with_failing(harness, library, "short 0", words, FILES)
+    harness.check("a byte a call, in pieces", short == whole, repr(short))
+    for kind, status, text in (("malloc", 4, b"mapred: out of memory\n"), ("open", 3, b"mapred: cannot read "), ("read", 3, b"mapred: cannot read "), ("write", 3, b"mapred: cannot write standard output\n")):
+        number, marked = 0, True
+        while marked:
+            number += 1
+            got, marked = with_failing(harness, library, f"{kind} {number}", words, FILES)
+            refused = got[0] == status and got[2].startswith(text) and got[3] == whole[3] and whole[1].startswith(got[1])
+            harness.check(f"{kind} {number} fails, in pieces", refused or (got == whole and (kind == "malloc" or not marked)), repr(got))
+        harness.check(f"it comes to some {kind}, in pieces", number > 1)
+
+
+GROUPS = {"explain": rows, "explain and a result": compared, "faults of explain": faults, "explain, random calls": random_calls, "explain and grep": as_grep_says, "failing calls of explain": failing_calls, "explain, long files": long_files, "failing pieces of explain": failing_pieces}

@@ -1,5 +1,5 @@
 """What a person at a terminal is told beside the program's own lines, and that nobody else is told it: each row runs
-twice, with standard error on a pseudo terminal and without one."""
+twice, with standard error on a pseudo terminal and without one. `--hints` says it in both."""
 import os
 import pty
 import resource
@@ -10,7 +10,8 @@ from rows import plain
 
 TEXT = {"a": b"The cat saw the dog.\nThe dog saw nothing.\n"}
 WORDS = ["--job", "words", "--out", "."]
-MEMORY = b"of words seq and check take 4 to 5 times the input, run 10 to 16, and 7 to 9 with --scratch: close other programs, or cut the input into several runs"
+MEMORY = b"words take 4 to 5 times their bytes: close other programs, or cut the input into several runs"
+MISSING = b"No such file or directory (os error 2)"
 
 
 def free_memory():
@@ -52,7 +53,7 @@ def limits(harness):
     seq = ["seq", *WORDS]
     grep = ["seq", "--job", "grep", "--out", "."]
     other = b"--keep-case belongs to words and index, --literal and --fold to grep, --by-host to url"
-    literal = b"--literal is 1 to 4096 bytes"
+    literal = b"--literal is 1 to 4096 bytes in one line"
     skips = b"--skips names more records than --max-skips K allows; K is 0 where it isn't given"
     for name, words, err, hint in [
         ("no partitions", [*seq, "--parts", "0", "a"], b"BadParts", b"--parts is 1 to 1024"),
@@ -61,14 +62,14 @@ def limits(harness):
         ("an option of another job", [*seq, "--fold", "a"], b"option does not belong to this job", other),
         ("an option of another job than an index", ["seq", "--job", "index", "--out", ".", "--fold", "a"], b"option does not belong to this job", other),
         ("the host for another job than url", [*seq, "--by-host", "a"], b"option does not belong to this job", other),
-        ("no literal", [*grep, "a"], b"EmptyLiteral", b"grep needs --literal TEXT, of 1 to 4096 bytes"),
+        ("no literal", [*grep, "a"], b"EmptyLiteral", b"grep needs --literal TEXT"),
         ("a long literal", [*grep, "--literal", "x" * 4097, "a"], b"LongLiteral", literal),
         ("a line feed in a literal", [*grep, "--literal", "x\ny", "a"], b"LineEndInLiteral", b"--literal holds no line feed, since lines are looked at one by one"),
-        ("a line feed in a name", ["check", *WORDS, "--verdict", "v", "a", "x\ny"], b"LineEndInName file 1", b"--verdict tells each name in one line: give the file another name, or a link"),
-        ("a verdict over an input", ["check", *WORDS, "--verdict", "./a", "a"], b"SameFile ./a", b"this file is read, or written under another name, and would be lost: give another name"),
+        ("a line feed in a name", ["check", *WORDS, "--verdict", "v", "a", "x\ny"], b"LineEndInName file 1", b"--verdict lists each name in one line, and that of this file, counted from 0, holds a line feed: give the file another name, or a link"),
+        ("a verdict over an input", ["check", *WORDS, "--verdict", "./a", "a"], b"SameFile ./a", b"the verdict would be written over a file that is read: give it another name"),
         ("a range and no file", [*seq, "--to", "1"], b"NoFileForRange", b"--from and --to speak of a FILE: name it"),
         ("a range that ends before it begins", [*seq, "--from", "21", "--to", "0", "a"], b"BadRange", b"--to lies before --from"),
-        ("a range behind the file", [*seq, "--to", "43", "a"], b"PastEnd file 0", b"this file ends before --from or --to"),
+        ("a range behind the file", [*seq, "--to", "43", "a"], b"PastEnd file 0", b"this file, counted from 0, ends before --from or --to"),
         ("a range inside a line", [*seq, "--from", "30", "a"], b"InsideALine file 0 byte 30", b"--from and --to stand where a line begins, or at the file's end: the nearest in a are 21 and 42"),
         ("a range inside the first line", [*seq, "--to", "3", "a"], b"InsideALine file 0 byte 3", b"--from and --to stand where a line begins, or at the file's end: the nearest in a are 0 and 21"),
         ("a bad skip list", [*seq, "--skips", "0", "a"], b"bad skip list", b"--skips is SPLIT:RECORD,SPLIT:RECORD, as in 0:1,0:7"),
@@ -100,7 +101,7 @@ def limits(harness):
 
 def files(harness):
     """Files that can't be read or written, with the system's reason; directories; what is written over; other parts."""
-    missing = b"No such file or directory (os error 2)"
+    missing = MISSING
     told(harness, "a missing file", ["seq", *WORDS, "none"], 3, err=b"mapred: cannot read none\n", hint=missing)
     told(harness, "a directory for a file", ["seq", *WORDS, "."], 3, err=b"mapred: cannot read .\n", hint=b"Is a directory (os error 21)")
     told(harness, "a missing part", ["check", *WORDS, "a"], 3, err=b"mapred: cannot read ./part-00000\n", hint=missing)
@@ -192,11 +193,12 @@ def verdicts(harness):
     told(harness, "a job that there isn't", [*check, "--job", "words", "a"], 1, out=other, hint=b"the certificate has other --job" + of, where=odd)
     cut = harness.directory(TEXT)
     write_result(cut, outputs, certificate[:20])
-    told(harness, "a certificate that ends in its front", [*check, "--job", "url", "a"], 1, out=other, where=cut)
+    hint = b"it is of another job, --keep-case, --literal, --fold, --by-host, --parts or --split: give those that seq had"
+    told(harness, "a certificate that ends in its front", [*check, "--job", "url", "a"], 1, out=other, hint=hint, where=cut)
     spoiled = harness.directory(TEXT)
     write_result(spoiled, [outputs[0][:-1] + b"x"], certificate)
-    got = on_terminal(harness, [*check, "--job", "words", "a"], spoiled)
-    harness.check("another no has no hint", got == harness.run([*check, "--job", "words", "a"], cwd=spoiled)[:3] and got[0] == 1 and got[2] == b"", repr(got))
+    hint = b"the part of that number is wrong from that byte on, or was cut: run seq again"
+    told(harness, "a spoiled part", [*check, "--job", "words", "a"], 1, out=b"no: OutputDiffers partition 0 at 33\n", hint=hint, where=spoiled)
 
 
 def shards(harness):
@@ -207,43 +209,80 @@ def shards(harness):
     os.mkdir(os.path.join(where, "whole"))
     good = open(os.path.join(where, "verdict"), "rb").read()
     harness.directory({"verdict": good.replace(b"job 1\n", b"job 9\n")}, where)
-    hint = b"the verdict asks for nothing that mapred can be asked for: judge its files again"
-    told(harness, "a verdict about no request", ["merge", "--out", "whole", "verdict"], 1, err=b"mapred: NoRequest\n", hint=hint, where=where)
+    hint = b"VERDICT asks for nothing that mapred can be asked for: judge its files again"
+    told(harness, "a verdict about no request", ["merge", "--out", "whole", "verdict"], 1, err=b"mapred: NoRequest\n", hint=b"the first " + hint, where=where)
     told(harness, "a verdict about no request, tested again", ["verify", "verdict"], 1, err=b"mapred: NoRequest\n", hint=hint, where=where)
     harness.directory({"verdict": good.replace(b"emitted ", b"emitted 1")}, where)
-    hint = b"the lines of the parts tell other pairs than the verdict: judge them again"
+    hint = b"the lines of the parts give other pairs than VERDICT: judge them again"
     told(harness, "a verdict with other pairs", ["verify", "verdict"], 1, err=b"mapred: OtherTotal\n", hint=hint, where=where)
     harness.directory({"verdict": good, "a": b"other\n"}, where)
-    hint = b"this isn't the input that was judged, from its range's first byte to the last: get it again, or judge again"
+    hint = b"this input, from its range's first byte to the last, isn't the one that was judged: get it again, or judge again"
     told(harness, "another input than was judged", ["verify", "--with-inputs", "verdict"], 1, err=b"mapred: OtherInput input 0\n", hint=hint, where=where)
     harness.directory({"a": TEXT["a"]}, where)
     harness.run(["seq", *WORDS, "--from", "21", "a"], cwd=where)
     harness.run(["check", *WORDS, "--from", "21", "--verdict", "verdict", "a"], cwd=where)
-    hint = b"this input begins inside its file, and the one before doesn't end there: name all shards, in order, or give --partial"
+    hint = b"this input begins inside its file, and the one before doesn't end there: name all shards, in order; the first input may begin so with --partial"
     told(harness, "a shard that is the end of a file", ["merge", "--out", "whole", "verdict"], 1, err=b"mapred: NoBeginning input 0\n", hint=hint, where=where)
     harness.run(["seq", *WORDS, "--to", "21", "a"], cwd=where)
     harness.run(["check", *WORDS, "--to", "21", "--verdict", "verdict", "a"], cwd=where)
-    hint = b"this input ends before its file does, and the next one doesn't begin there: name all shards, in order, or give --partial"
+    hint = b"this input ends before its file does, and the next one doesn't begin there: name all shards, in order; the last input may end so with --partial"
     told(harness, "a shard that is the front of a file", ["merge", "--out", "whole", "verdict"], 1, err=b"mapred: NoEnd input 0\n", hint=hint, where=where)
 
 
 def runs(harness):
-    """Each failure of a run has a hint, a certified run and a refused one none; faults of a script."""
+    """Each failure of a run has a hint, a certified run none; faults of a script."""
     text = {**TEXT, "bad": b"bad 0 0\n", "lost": b"lose 0 after 0\n", "flaky": b"flaky 0 0 1\n", "spoil": b"spoil 0 0\n", "odd": b"lose 0\n"}
     run = ["run", *WORDS, "--workers", "1", "--script"]
+    lost = b"every worker is lost: the script loses them (--workers W makes more), or none can keep a region (see that the directory of --scratch is there, may be written to, and has room)"
     for name, words, out, hint in [
         ("more left-out records than may be", ["bad", "a"], b"failed: TooManySkips\n", b"more records fail than --max-skips K lets be left out; K is 0 where it isn't given"),
-        ("no worker is left", ["lost", "a"], b"failed: NoWorkers\n", b"the script loses every worker: --workers W makes more of them"),
+        ("no worker is left", ["lost", "a"], b"failed: NoWorkers\n", lost),
         ("no attempt is left", ["flaky", "--attempts", "1", "a"], b"failed: TooManyAttempts\n", b"a task has had --attempts A attempts, 8 where it isn't given, and none completed it"),
-        ("a spoiled output", ["spoil", "a"], b"uncertified: OutputDiffers partition 0 at 0\n", None),
+        ("a spoiled output", ["spoil", "a"], b"uncertified: OutputDiffers partition 0 at 0\n", b"the judge refused what was made, by this fault, as `mapred check` would name it"),
     ]:
         told(harness, name, [*run, *words], 1, out=out, hint=hint, files=text)
-    room = b"a worker that can't keep a region is lost: see that the directory of --scratch is there, may be written to, and has room"
     gone = b"note: there is no directory nowhere: make it first\n"
-    told(harness, "no directory for regions", [*run, "flaky", "--scratch", "nowhere", "a"], 1, out=b"failed: NoWorkers\n", before=gone, hint=room, files=text)
+    told(harness, "no directory for regions", [*run, "flaky", "--scratch", "nowhere", "a"], 1, out=b"failed: NoWorkers\n", before=gone, hint=lost, files=text)
     told(harness, "a certified run", [*run, "flaky", "a"], 0, out=b"certified: 1 files, 9 pairs, 0 left out\n", files=text)
-    kinds = b"a line is `lose W after N`, `zombie W after N`, `bad S R`, `flaky S R N`, `hold W`, `spoil P B` or `damage S P B`"
+    kinds = b"a line of the script is `lose W after N`, `zombie W after N`, `bad S R`, `flaky S R N`, `hold W`, `spoil P B` or `damage S P B`"
     told(harness, "a bad line", [*run, "odd", "a"], 2, err=b"mapred: BadLine 1\n", hint=kinds, files=text)
+
+
+def asked_for(harness):
+    """--hints always tells off a terminal what a terminal is told, but for progress; never tells no hint anywhere."""
+    full = harness.directory(TEXT)
+    os.symlink("/dev/full", os.path.join(full, "certificate"))
+    over = b"note: . has a result already, which will be written over\n"
+    limit = {"preexec_fn": lambda: resource.setrlimit(resource.RLIMIT_FSIZE, (10, 10)), "restore_signals": False}
+    rows = [
+        ("a full disk", ["seq", *WORDS, "a"], 3, b"", b"mapred: cannot write ./certificate\n", over, b"No space left on device (os error 28)", full, {}),
+        ("a limit of the system", ["seq", *WORDS, "a"], 3, b"", b"mapred: cannot write ./part-00000\n", b"", b"File too large (os error 27)", None, limit),
+        ("a missing directory", ["seq", "--job", "words", "--out", "nowhere", "a"], 3, b"", b"mapred: cannot write nowhere/part-00000\n", b"note: there is no directory nowhere: make it first\n", MISSING, None, {}),
+        ("a forbidden directory", ["seq", "--job", "words", "--out", "/sys", "a"], 3, b"", b"mapred: cannot write /sys/part-00000\n", b"", b"Permission denied (os error 13)", None, {}),
+        ("a missing file", ["run", *WORDS, "none"], 3, b"", b"mapred: cannot read none\n", b"", MISSING, None, {}),
+        ("a missing verdict", ["merge", "--out", ".", "none"], 3, b"", b"mapred: cannot read none\n", b"", MISSING, None, {}),
+        ("a missing verdict, tested again", ["verify", "none"], 3, b"", b"mapred: cannot read none\n", b"", MISSING, None, {}),
+        ("an explained file", ["explain", "--job", "words", "--key", "x", "none"], 3, b"", b"mapred: cannot read none\n", b"", MISSING, None, {}),
+        ("a limit", ["seq", *WORDS, "--parts", "0", "a"], 2, b"", b"mapred: BadParts\n", b"", b"--parts is 1 to 1024", None, {}),
+        ("a result", ["seq", *WORDS, "a"], 0, b"done: 1 files, 9 pairs, 0 left out\n", b"", b"", None, None, {}),
+    ]
+    for name, words, status, out, err, before, hint, where, more in rows:
+        shown = before + err + (b"hint: " + hint + b"\n" if hint else b"")
+        for when, wanted in (("always", shown), ("never", err)):
+            for line in ([*words, "--hints", when], [words[0], f"--hints={when}", *words[1:]]):
+                for run in (lambda *it, **more: harness.run(*it, **more)[:3], lambda *it, **more: on_terminal(harness, *it, **more)):
+                    got = run(line, cwd=where or harness.directory(TEXT), **more)
+                    harness.check(f"{name}, {line[1:3]}", got == (status, out, wanted), f"{got} wanted {wanted}")
+        got = harness.run([*words, "--hints", "auto"], cwd=where or harness.directory(TEXT), **more)
+        harness.check(f"{name}, auto", got[:3] == (status, out, err), repr(got))
+    odd = "a\x1b[31m\x07"
+    got = harness.run(["seq", *WORDS, "--hints", "always", odd], TEXT)
+    harness.check("control bytes", got[:3] == (3, b"", b"mapred: cannot read a\\x1b[31m\\x07\nhint: " + MISSING + b"\n"), repr(got))
+    for words in (["seq", *WORDS, "--hints", "always", "--" + odd], ["seq", "--hints=always", *WORDS, "--" + odd]):
+        got = harness.run(words, TEXT)
+        harness.check("a fault of the line", got[:2] == (2, b"") and b"\\x1b[31m" in got[2] and b"\x1b" not in got[2], repr(got))
+    got = harness.run(["seq", *WORDS, "--hints", "sometimes", "a"], TEXT)
+    harness.check("neither of them", got[:2] == (2, b"") and b"[possible values: auto, always, never]" in got[2], repr(got))
 
 
 def both_streams(harness):
@@ -270,4 +309,4 @@ def memory(harness):
     harness.check("want of memory, on a terminal", got == (4, b"", b"mapred: out of memory\nhint: " + MEMORY + b"\n"), repr(got))
 
 
-GROUPS = {"hints on limits": limits, "hints on files": files, "hints on verdicts": verdicts, "hints on partitions": other_partitions, "hints on shards": shards, "hints on runs": runs, "hints on one terminal": both_streams, "hints on memory": memory}
+GROUPS = {"hints on limits": limits, "hints on files": files, "hints on verdicts": verdicts, "hints on partitions": other_partitions, "hints on shards": shards, "hints on runs": runs, "hints asked for": asked_for, "hints on one terminal": both_streams, "hints on memory": memory}

@@ -71,7 +71,7 @@ def completed(harness):
         (["se"], ["seq"]),
         (["seq", "--job", ""], ["words", "grep", "url", "index"]),
         (["seq", "--spl"], ["--split"]),
-        (["run", "--hi"], ["--history"]),
+        (["run", "--his"], ["--history"]),
         (["check", "--out", "cou"], ["counts"]),
         (["seq", "--parts", ""], []),
         (["merge", "pack"], ["package", "packaging"]),

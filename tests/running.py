@@ -451,18 +451,22 @@ def failing_calls(harness):
     short, _ = with_failing(harness, library, "short 0", alone, given)
     harness.check("a run a byte a call", short == whole, repr(short))
     for kind, status, said in (("malloc", 4, b"mapred: out of memory\n"), ("open", 3, b"mapred: cannot "), ("read", 3, b"mapred: cannot read "), ("write", 3, b"mapred: cannot write ")):
-        number, spared, marked = 0, 0, True
+        number, spared, vain, marked = 0, 0, 0, True
         while marked:
             number += 1
             got, marked = with_failing(harness, library, f"{kind} {number}", alone, given)
             refused = got[:2] == (status, b"") and got[2].startswith(said) and got[2].count(b"\n") == 1 and is_beginning(got[3], whole[3], given)
             unprinted = kind == "write" and got == (0, b"", b"", whole[3])
             spared += kind == "malloc" and marked and got == whole
-            harness.check(f"run, {kind} {number} fails", refused or unprinted or (got == whole and (kind == "malloc" or not marked)), repr(got))
+            # a verdict that can't be opened is none
+            none = kind == "open" and marked and got == whole
+            vain += none
+            harness.check(f"run, {kind} {number} fails", refused or unprinted or none or (got == whole and (kind == "malloc" or not marked)), repr(got))
         harness.check(f"a run comes to some {kind}", number > 1)
         # asking for a word behind the last one needs no memory, a thread that can't be made is done without, and so are the
-        # bits for the names of each partition's regions; where the fast judge is refused memory, the plain one judges
-        harness.check("a run needs nearly all memory", spared <= 64, str(spared))
+        # bits for the names of each partition's regions; where the fast judge is refused memory, the plain one judges; a verdict
+        # that isn't there may be opened in vain
+        harness.check("a run needs nearly all memory", spared <= 65 and vain <= 1, str((spared, vain)))
     number, marked, several = 0, True, [*words, "--workers", "4", "a"]
     while marked:
         number += 1
