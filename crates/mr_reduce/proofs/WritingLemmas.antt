@@ -1,5 +1,5 @@
 -- The text of a group, written value by value, is the text of all its values.
-use Rattle.std.proofs.Common.{◌≡◌, ◌⊎◌, ℕ, suc, ◌+◌, ◌<◌, ◌≤◌, ◌^◌, ◌++◌, ◌∙◌, Bool, true, false, cond, List, [], ◌∷◌, Option, None, Some, length, arith, length-append, append_assoc, refl, ap, sym, inl, inr, decimal}
+use Rattle.std.proofs.Common.{◌≡◌, ◌⊎◌, ℕ, zero, suc, take, ◌+◌, ◌<◌, ◌≤◌, ◌^◌, ◌++◌, ◌∙◌, Bool, true, false, cond, List, [], ◌∷◌, Option, None, Some, length, arith, length-append, append_assoc, refl, ap, sym, inl, inr, decimal}
 use Rattle.std.specs.Prelude.{IfSome, nat_eq}
 use Rattle.std.specs.List.{flat_map}
 use Rattle.std.specs.Ordering.{nat_cmp}
@@ -23,11 +23,11 @@ use Rattle.mr_reduce.proofs.FileLemmas.{comma, file-of, files_rise, told_has}
 
 -- ---- one value more
 
-after-last : (o : Option ℕ) (vs : List Value) (v : Value) → last_file o (vs ++ v ∷ []) ≡ file_after (last_file o vs) v
+pub after-last : (o : Option ℕ) (vs : List Value) (v : Value) → last_file o (vs ++ v ∷ []) ≡ file_after (last_file o vs) v
 after-last o [] v = refl
 after-last o (u ∷ us) v = after-last (file_after o u) us v
 
-text-last : (t : GroupText) (key : List ℕ) (o : Option ℕ) (vs : List Value) (v : Value)
+pub text-last : (t : GroupText) (key : List ℕ) (o : Option ℕ) (vs : List Value) (v : Value)
     → values_text t key o (vs ++ v ∷ []) ≡ values_text t key o vs ++ value_text t key (last_file o vs) v
 text-last t key o [] v = append-nil (value_text t key o v)
 text-last t key o (u ∷ us) v =
@@ -187,7 +187,7 @@ runs-rise last (At file offset ∷ vs) rise low =
     by None le later = record { rise = all later; above = λ f h. tt }
     by (Some l) le later = at l (nat_eq l file) refl le later
 
-pub runs-are : (vs : List Value) → NeverFalls vs → runs None vs ≡ files_of vs
+runs-are : (vs : List Value) → NeverFalls vs → runs None vs ≡ files_of vs
 runs-are vs rise =
     rising_is_one nat_cmp (runs None vs) (files_of vs) nat_cmp_total ((runs-rise None vs rise (λ at f t. tt)).rise) (files_rise vs)
     (λ f. (λ h. file-of vs f (told_has vs f (runs-told None vs f h)), λ h. there f (told-runs None vs f (sorted-Has_from nat_cmp (flat_map file_in vs) f h))))
@@ -195,6 +195,23 @@ runs-are vs rise =
     there : (f : ℕ) → Has (runs None vs) f ⊎ (None ≡ Some f) → Has (runs None vs) f
     there f (inl h) = h
     there f (inr e) = absurd (let no : None ≡ Some f = e in cc)
+
+-- where files never fall, the text of the values is that of their files
+pub rising-text : (vs : List Value) → NeverFalls vs → values_text Files [] None vs ≡ comma_separated (files_of vs)
+rising-text vs rise = text-first [] vs ∙ ap comma_separated (runs-are vs rise)
+
+-- the text of the first values is no longer than that of all
+pub text-up-to : (t : GroupText) (key : List ℕ) (o : Option ℕ) (vs : List Value) (n : ℕ) → length (values_text t key o (take n vs)) ≤ length (values_text t key o vs)
+text-up-to t key o [] zero = omega arith
+text-up-to t key o [] (suc n) = omega arith
+text-up-to t key o (v ∷ vs) zero = omega arith
+text-up-to t key o (v ∷ vs) (suc n) =
+    omega (
+      arith,
+      text-up-to t key (file_after o v) vs n,
+      length-append (value_text t key o v) (values_text t key (file_after o v) (take n vs)),
+      length-append (value_text t key o v) (values_text t key (file_after o v) vs),
+    )
 
 -- ---- the whole text
 

@@ -14,10 +14,9 @@ ghost use Rattle.mr_bytes.specs.declared.Value.{Value as Emitted};
 ghost use Rattle.mr_jobs.specs.JobSpec.{JobSpec, group_text_of};
 ghost use Rattle.mr_reduce.specs.Appending.{Appends};
 ghost use Rattle.mr_reduce.specs.Text.{text_of};
-ghost use Rattle.mr_reduce.specs.Writing.{IsWritable, Writes, closing, file_after, opening};
-ghost use Rattle.mr_reduce.specs.Writing.{value_file, value_text};
+ghost use Rattle.mr_reduce.specs.Writing.{IsWritable, Writes, closing, opening, value_text};
 
-use crate::files::put_file;
+use crate::files::{after, put_next_file};
 use crate::{put_place, put_total};
 use mr_bytes::Value;
 use mr_jobs::{GroupText, Job};
@@ -119,28 +118,5 @@ impl<'k> TextWriter<'k> {
                 Ok(())
             }
         }
-    }
-}
-
-fn after(last: Option<u32>, value: Value) -> Option<u32>
-    ensures { result ≡ file_after last value }
-{
-    match value {
-        Value::One => last,
-        Value::At { file, offset: _ } => Some(file),
-    }
-}
-
-/// Appends the file of a value, unless it is the last one again.
-fn put_next_file(last: Option<u32>, value: Value, out: &mut Vec<u8>) -> Result<(), AllocError>
-    ensures { Appends result out.old out.new (value_file last value) }
-{
-    let Value::At { file, offset: _ } = value else {
-        return Ok(());
-    };
-    match last {
-        None => put_file(true, file, out),
-        Some(last) if last == file => Ok(()),
-        Some(_) => put_file(false, file, out),
     }
 }

@@ -4,7 +4,7 @@ use Rattle.std.specs.Prelude.{decimal}
 use Rattle.std.proofs.lemmas.Bool.{cases_eq, eq-eqb, ne_eqb}
 use Rattle.std.proofs.lemmas.List.{append-nil}
 use Rattle.std.proofs.lemmas.Cmp.{ranked}
-use Rattle.std.proofs.lemmas.Fmt.{decimal_injective}
+use Rattle.std.proofs.lemmas.Fmt.{decimal_injective, decimal_is_IsNumeral}
 use Rattle.std.specs.Borrow.{Bor}
 use Rattle.std.specs.List.{AllByRecursion, flat_map}
 use Rattle.std.specs.Ordering.{nat_cmp}
@@ -26,7 +26,7 @@ use Rattle.std.specs.Prelude.{IfSome, MatchOption}
 use Rattle.std.specs.Str.Parse.{digits_value}
 use Rattle.std.proofs.lemmas.List.{append_assoc, length-append}
 use Rattle.std.proofs.Math.Seq.{drop-append-add}
-use Rattle.mr_shards.proofs.NumberLemmas.{IsReadOn, TakesDigit, known-all, known-more}
+use Rattle.mr_shards.proofs.NumberLemmas.{IsReadOn, TakesDigit, known-all, known-more, known-none}
 use Rattle.mr_shards.proofs.ReadingLemmas.{decimal-lacks, fields-commas, fields-last, fields-next, values-read}
 
 -- ---- fields that were read
@@ -131,6 +131,17 @@ begun-more text b at value low other k = known-more text b.number _ at value (fi
 
 pub begun-all : (text : List ℕ) (b : BeginsList text) (at value : ℕ) → IsReadOn b.number at value → (length text ≤ at) ⊎ (get_or text at 0 ≡ 44) → (value ≡ b.number) × (at ≡ length (decimal b.number))
 begun-all text b at value k end = known-all text b.number _ at value (field-begins text b.number b.more b.small b.is) k end
+
+-- it has a digit
+pub begun-some : (text : List ℕ) (b : BeginsList text) → (0 < length text) × (get_or text 0 0 ≡ 44 → ⊥)
+begun-some text b =
+    let small : b.number < 2 ^ 64 = omega (arith, b.small) in
+    let some : 0 < length (decimal b.number) = (decimal_is_IsNumeral b.number small).0.0 in
+    let rest : List ℕ = flat_map (λ g. 44 ∷ g) b.more in
+    let begins = field-begins text b.number b.more b.small b.is in (
+      omega (arith, some, ap length begins.is, length-append (decimal b.number) rest),
+      λ comma. (let all = begun-all text b 0 0 (known-none b.number small) (inr comma) in omega (arith, some, all.1)),
+    )
 
 -- the list behind its comma
 pub begun-comma : (text : List ℕ) (n : ℕ) (more : List (List ℕ)) (at : ℕ) → n < 2 ^ 32 → fields text ≡ decimal n ∷ more → at ≡ length (decimal n) → at < length text

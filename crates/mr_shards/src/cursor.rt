@@ -81,6 +81,7 @@ fn held_behind(cursor: &Cursor<'_>) -> Held
 
 /// Reads the line at the front of a window that begins behind what is held. None if it isn't whole
 /// yet; a cursor without a head at the end of the last window. Tests no order.
+#[inline(always)]
 pub(crate) fn read_line<'a>(
     job: &Job,
     shard: usize,
@@ -166,17 +167,35 @@ pub(crate) fn advance(job: &Job, shard: usize, cursor: &mut Cursor<'_>) -> Resul
     Ok(true)
 }
 
+/// Whether both lines have one key. `front` has all bytes of a key of no more than eight.
+#[inline(always)]
+fn have_one_key(line: Line<'_>, other: Line<'_>) -> bool
+    requires line { HasFront line }
+    requires other { HasFront other }
+    ensures { IsTrue result ↔ (line.entry.key.now ≡ other.entry.key.now) }
+{
+    if line.front != other.front || line.key.len() != other.key.len() {
+        return false;
+    }
+    if line.key.len() <= 8 {
+        return true;
+    }
+    line.key == other.key
+}
+
 /// Whether a line's key is less. `front` decides where it differs; else most keys are equal.
 fn is_before(line: Line<'_>, other: Line<'_>) -> bool
     requires line { HasFront line }
     requires other { HasFront other }
     ensures { result ≡ is_lt (key_order line.entry.key.now other.entry.key.now) }
 {
-    if line.front == other.front {
-        line.key != other.key && compare_keys(line.key, other.key).is_lt()
-    } else {
-        line.front < other.front
+    if line.front != other.front {
+        return line.front < other.front;
     }
+    if have_one_key(line, other) {
+        return false;
+    }
+    compare_keys(line.key, other.key).is_lt()
 }
 
 /// The line of the lesser key, with its shard; `least` wins a tie.
@@ -223,7 +242,7 @@ fn alike<'a>(head: Option<Line<'a>>, last: Line<'_>) -> Option<Line<'a>>
     let Some(line) = head else {
         return None;
     };
-    if line.front == last.front && line.key == last.key {
+    if have_one_key(line, last) {
         Some(line)
     } else {
         None

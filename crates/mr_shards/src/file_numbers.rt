@@ -73,9 +73,34 @@ fn place_in(number: u32, moved: Shift) -> Value
     }
 }
 
-/// The first number of a list that was tested, and the list behind its comma if there is one.
+/// The first number of a list that was tested, and the list behind its comma if there is one. Most
+/// have one or two digits.
 #[inline(always)]
 fn first_number(list: &[u8]) -> (u32, Option<&[u8]>)
+    requires { BeginsList list.now }
+    ensures number { fields list.entry.now ≡ decimal result.0 ∷ fields_left result.1 }
+    ensures fits { result.0 < 2 ^ 32 }
+    ensures shorter { size_left result.1 ≤ length list.entry.now }
+{
+    let first = u32::from(list[0] - b'0');
+    if list.len() < 2 {
+        return (first, None);
+    }
+    if list[1] == b',' {
+        return (first, Some(&list[2..]));
+    }
+    let both = first * 10 + u32::from(list[1] - b'0');
+    if list.len() < 3 {
+        return (both, None);
+    }
+    if list[2] == b',' {
+        return (both, Some(&list[3..]));
+    }
+    long_number(list)
+}
+
+/// Like `first_number`, digit by digit.
+fn long_number(list: &[u8]) -> (u32, Option<&[u8]>)
     requires { BeginsList list.now }
     ensures number { fields list.entry.now ≡ decimal result.0 ∷ fields_left result.1 }
     ensures fits { result.0 < 2 ^ 32 }

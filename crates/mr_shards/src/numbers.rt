@@ -21,9 +21,28 @@ fn with_digit(value: u64, text: &[u8], at: usize) -> Option<u64>
     (value * 10).checked_add(u64::from(digit - b'0'))
 }
 
-/// Parses the number at the front, and returns what is behind it too.
+/// Cuts off a number of one or two digits, if one is at the front.
 #[inline(always)]
-pub(crate) fn cut_number(text: &[u8]) -> Option<(u64, &[u8])>
+fn cut_short(text: &[u8]) -> Option<(u64, &[u8])>
+    ensures { IfSome result (λ r. IsCutBehind text.entry.now r.0 r.1.now) }
+{
+    let Some(first) = with_digit(0, text, 0) else {
+        return None;
+    };
+    let Some(both) = with_digit(first, text, 1) else {
+        return Some((first, &text[1..]));
+    };
+    if text[0] == b'0' {
+        return None;
+    }
+    match with_digit(both, text, 2) {
+        None => Some((both, &text[2..])),
+        Some(_) => None,
+    }
+}
+
+/// Like `cut_number`, digit by digit.
+fn cut_long(text: &[u8]) -> Option<(u64, &[u8])>
     ensures some { IfSome result (λ r. IsCutBehind text.entry.now r.0 r.1.now) }
     ensures none { result ≡ None → (n : ℕ) (rest : List ℕ) → BeginsWith text.entry.now n rest → ⊥ }
 {
@@ -40,6 +59,18 @@ pub(crate) fn cut_number(text: &[u8]) -> Option<(u64, &[u8])>
         return None;
     }
     Some((value, &text[at..]))
+}
+
+/// Parses the number at the front, and returns what is behind it too. Most have few digits.
+#[inline(always)]
+pub(crate) fn cut_number(text: &[u8]) -> Option<(u64, &[u8])>
+    ensures some { IfSome result (λ r. IsCutBehind text.entry.now r.0 r.1.now) }
+    ensures none { result ≡ None → (n : ℕ) (rest : List ℕ) → BeginsWith text.entry.now n rest → ⊥ }
+{
+    match cut_short(text) {
+        Some(cut) => Some(cut),
+        None => cut_long(text),
+    }
 }
 
 /// Parses a text that is a number.

@@ -63,6 +63,7 @@ impl Waiting {
     }
 
     /// Adds the values of a line.
+    #[inline(always)]
     fn add(&mut self, job: &Job, line: Line<'_>) -> Result<(), MergeFault>
         requires { IsFor job.now line.tally }
         ensures group { OnOk result (IsWaitingFor job.now self.old

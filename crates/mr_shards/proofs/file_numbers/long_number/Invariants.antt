@@ -1,7 +1,7 @@
 use Rattle.std.proofs.Common.{◌-◌, length}
 use Rattle.mr_shards.specs.Index.{BeginsList}
 use Rattle.mr_shards.proofs.NumberLemmas.{IsReadOn}
-use Rattle.mr_shards.proofs.file_numbers.first_number.Given as goal
+use Rattle.mr_shards.proofs.file_numbers.long_number.Given as goal
 
 abbrev pub invariant-loop-at : goal.invariant-loop-at
 invariant-loop-at l = (b : BeginsList l.list) × IsReadOn b.number l.at l.number

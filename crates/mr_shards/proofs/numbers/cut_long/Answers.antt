@@ -1,7 +1,7 @@
 use Rattle.std.proofs.Common.{◌<◌, arith}
 use Rattle.mr_shards.proofs.NumberLemmas.{behind-cut, none-begins, number-cut, number-more, number-none, zero-begins}
-use Rattle.mr_shards.proofs.numbers.cut_number.Goals as goal
-use Rattle.mr_shards.proofs.numbers.cut_number.Goals.{else-at-gt1-via-then-at-gt1+else-text-eq48, else-at-gt1-via-else-at-gt1}
+use Rattle.mr_shards.proofs.numbers.cut_long.Goals as goal
+use Rattle.mr_shards.proofs.numbers.cut_long.Goals.{else-at-gt1-via-then-at-gt1+else-text-eq48, else-at-gt1-via-else-at-gt1}
 
 pub loop-next-init : goal.loop-next-init
 loop-next-init c = number-none c.args.text.now
