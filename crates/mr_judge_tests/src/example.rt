@@ -52,10 +52,10 @@ fn book(alloc: Global) -> Result<Given, ExampleFault>
 fn counted(alloc: Global, given: &Given, watch: &Counting) -> Result<JobResult, ExampleFault>
     requires { split_total given.now.request.split given.now.input ≤ 2 ^ 20 }
 {
-    let (outputs, certificate) = run_watched(alloc, &given.request, &given.input, &[], watch)?;
-    let certificate = write(alloc, &certificate, Version::V1)?;
+    let made = run_watched(alloc, &given.request, &given.input, &[], watch)?;
+    let certificate = write(alloc, &made.certificate, Version::V1)?;
     Ok(JobResult {
-        outputs,
+        outputs: made.outputs,
         certificate,
     })
 }

@@ -1,5 +1,6 @@
 -- Records one after another, and how many pairs they give.
-use Rattle.std.proofs.Common.{◌≡◌, ℕ, ◌+◌, ◌/◌, ◌≤◌, ◌^◌, cond, not, true, false, List, [], ◌∷◌, ◌++◌, length, refl, sym, ◌∙◌, ap, arith, append_assoc, map, eqb}
+use Rattle.std.proofs.Common.{◌≡◌, ℕ, ◌+◌, ◌/◌, ◌≤◌, ◌^◌, cond, not, true, false, List, [], ◌∷◌, ◌++◌, length, refl, sym, ◌∙◌, ap, arith, append_assoc, map, eqb, count_by, ◌==◌, Bool}
+use Rattle.std.specs.Int.{from_bool}
 use Rattle.std.proofs.lemmas.List.{map-append, append-nil, length-append, length-map}
 use Rattle.std.proofs.lemmas.List.Sums.{sum_by-cons}
 use Rattle.std.specs.List.{flat_map}
@@ -12,7 +13,7 @@ use Rattle.mr_jobs.proofs.CountLemmas.{few_emissions}
 use Rattle.mr_splits.specs.Named.{NamedRecord, is_left_out, named_from, named_files, named_records}
 use Rattle.mr_splits.specs.Kept.{kept_records}
 use Rattle.mr_bytes.specs.Pairs.{Triple}
-use Rattle.mr_sequential.specs.Emitted.{placed_from, record_triples, emitted}
+use Rattle.mr_sequential.specs.Emitted.{placed_from, record_triples, emitted, gives_nothing}
 use Rattle.mr_certform.specs.Packed.{names_from}
 use Rattle.mr_sequential.specs.Names.{record_names}
 use Rattle.mr_sequential.specs.Pairs.{kept_pairs, record_keys}
@@ -60,6 +61,26 @@ pub next_gathered : {Y : Type 0} (f : NamedRecord → List Y) (old now given all
 next_gathered {Y} f old now given all left later r is one grown before =
     ap (λ (l : List Y). l ++ flat_map f later) (grown ∙ ap (λ (l : List Y). old ++ l) one) ∙ append_assoc old (f r) (flat_map f later)
     ∙ ap (λ (l : List NamedRecord). old ++ flat_map f l) (sym is) ∙ before
+
+from_bool-cond : (b : Bool) → from_bool b ≡ cond b 1 0
+from_bool-cond b = elim b as (λ b. from_bool b ≡ cond b 1 0) [
+  | true ↦ refl
+  | false ↦ refl
+]
+
+pub one-at-most : (b : Bool) → from_bool b ≤ 1
+one-at-most b = elim b as (λ b. from_bool b ≤ 1) [
+  | true ↦ omega arith
+  | false ↦ omega arith
+]
+
+-- one more of the records, which gives nothing or something
+pub next_silent : (job : JobSpec) (r : NamedRecord) (left later : List NamedRecord) (old n quiet all : ℕ)
+    → left ≡ r ∷ later → quiet ≡ from_bool (n == 0) → n ≡ length (emissions job r.file r.start r.bytes)
+    → old + count_by (gives_nothing job) left ≡ all → old + quiet + count_by (gives_nothing job) later ≡ all
+next_silent job r left later old n quiet all is one many before =
+    let told : quiet ≡ cond (gives_nothing job r) 1 0 = one ∙ from_bool-cond (n == 0) ∙ ap (λ (m : ℕ). cond {A = ℕ} (m == 0) 1 0) many in
+    omega (arith, before, told, ap (count_by (gives_nothing job)) is, sum_by-cons (λ (s : NamedRecord). cond (gives_nothing job s) 1 0) r later)
 
 -- no more records
 pub last_gathered : {Y : Type 0} (f : NamedRecord → List Y) (old all : List Y) (left : List NamedRecord) → left ≡ [] → old ++ flat_map f left ≡ all → old ≡ all

@@ -11,7 +11,7 @@ use Rattle.mr_splits.specs.Named.{NamedRecord, of_split}
 use Rattle.mr_splits.specs.Cut.{Cut, nth_named, records_of}
 use Rattle.mr_splits.specs.Kept.{Choice}
 use Rattle.mr_bytes.specs.Pairs.{Triple}
-use Rattle.mr_sequential.specs.Emitted.{emitted}
+use Rattle.mr_sequential.specs.Emitted.{emitted, silent_count}
 use Rattle.mr_sequential.specs.Rules.{Key}
 
 -- the names of what a record gives
@@ -21,6 +21,10 @@ record_names job r = names_from r.name 0 (length (emissions job r.file r.start r
 -- all that a job emits for the records that are kept
 abbrev pub triples_of : JobSpec → Choice → List Triple
 triples_of job choice = emitted job choice.cut.size choice.cut.files choice.skips
+
+-- how many kept records give nothing
+abbrev pub silent_of : JobSpec → Choice → ℕ
+silent_of job choice = silent_count job choice.cut.size choice.cut.files choice.skips
 
 -- the keys of all pairs, and their names
 pub record AreEmitted (job : JobSpec) (choice : Choice) (keys : List Key) (names : Numbered) : Type 0 where

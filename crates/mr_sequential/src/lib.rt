@@ -15,7 +15,8 @@ mod source;
 mod texts;
 
 pub use sequence::{
-    RunFault, certified_law, entries_law, good_law, header_of, run, run_watched, unique_law,
+    Executed, RunFault, certified_law, entries_law, good_law, header_of, lengths_of, run,
+    run_watched, unique_law,
 };
 
 /// A partition's keys are the one list that rises strictly and has exactly the keys that belong to

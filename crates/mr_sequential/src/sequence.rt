@@ -4,6 +4,9 @@ ghost use Rattle.std.specs.Prelude.{◌≢◌, None, Some, length, map};
 ghost use Rattle.mr_input.specs.Files.{contents, nth_file, split_total};
 ghost use Rattle.mr_jobs.specs.JobSpec.{flags_of, job_literal, job_number};
 ghost use Rattle.mr_splits.specs.Cut.{records_of};
+ghost use Rattle.mr_splits.specs.Named.{named_records};
+ghost use Rattle.mr_sequential.specs.Emitted.{silent_count};
+ghost use Rattle.mr_sequential.specs.Names.{silent_of};
 ghost use Rattle.mr_sequential.specs.Certified.{certificate_of};
 ghost use Rattle.mr_sequential.specs.Good.{IsGood};
 ghost use Rattle.mr_sequential.specs.Rows.{AreOutputs};
@@ -72,6 +75,17 @@ fn plan_of<'a>(alloc: Global, request: &Request, input: &'a Input) -> Result<Pla
     Plan::new_fitting(alloc, input, request.split_size())
 }
 
+/// What a sequential execution gives.
+#[derive(Drop)]
+pub struct Executed {
+    pub outputs: Vec<Vec<u8>>,
+    pub certificate: Certificate,
+    /// How many records the input has.
+    pub records: u64,
+    /// How many of those that aren't left out give nothing.
+    pub silent: u64,
+}
+
 /// Executes the request's job over the input, record by record, without the records of `skips`.
 /// Returns each partition's output, and the certificate, which lists the names of each group's
 /// pairs. The input's splits must fit (`Request::fits`). The number of left-out records is tested
@@ -94,23 +108,33 @@ pub fn run(
     ensures too_many { (result ≡ Err RunFault.TooManySkips)
         ↔ (request.now.skips < length skips.now) }
 {
-    run_watched(alloc, request, input, skips, &Unwatched)
+    let Executed {
+        outputs,
+        certificate,
+        ..
+    } = run_watched(alloc, request, input, skips, &Unwatched)?;
+    Ok((outputs, certificate))
 }
 
-/// What `run` does. It reports mapped records, and the outputs' begin and end, to `watch`.
+/// What `run` does. It reports mapped records, and the outputs' begin and end, to `watch`,
+/// and counts records.
 pub fn run_watched(
     alloc: Global,
     request: &Request,
     input: &Input,
     skips: &[RecordName],
     watch: &dyn Progress,
-) -> Result<(Vec<Vec<u8>>, Certificate), RunFault>
+) -> Result<Executed, RunFault>
     requires { split_total request.now.split input.now ≤ 2 ^ 20 }
-    ensures count { IfOk result (λ r. length r.0.items ≡ request.now.parts) }
+    ensures count { IfOk result (λ r. length r.outputs.items ≡ request.now.parts) }
     ensures texts { IfOk result (λ r. (p : ℕ) → p < request.now.parts
-        → nth_file (contents r.0.items) p ≡ sequential request.now input.now skips.now p) }
-    ensures certificate { IfOk result (λ r. r.1 ≡ certificate_of request.now input.now skips.now) }
-    ensures is_good { IfOk result (λ r. IsGood request.now input.now (contents r.0.items) r.1) }
+        → nth_file (contents r.outputs.items) p ≡ sequential request.now input.now skips.now p) }
+    ensures certificate { IfOk result (λ r. r.certificate ≡ certificate_of request.now input.now skips.now) }
+    ensures is_good { IfOk result (λ r. IsGood request.now input.now (contents r.outputs.items) r.certificate) }
+    ensures records { IfOk result (λ r. r.records
+        ≡ length (named_records request.now.split input.now)) }
+    ensures silent { IfOk result (λ r. r.silent
+        ≡ silent_count request.now.job request.now.split input.now skips.now) }
     ensures skips { OnOk result (skip_fault request.now input.now skips.now ≡ None) }
     ensures fault { IfErr result
         (λ e. (e ≡ RunFault.OutOfMemory) ⊎ (skip_fault request.now input.now skips.now ≡ Some e)) }
@@ -127,7 +151,8 @@ pub fn run_watched(
     execute(alloc, request, &plan, skips, watch)
 }
 
-fn lengths_of(alloc: Global, input: &Input) -> Result<Vec<u64>, AllocError>
+/// How many bytes each file of the input has.
+pub fn lengths_of(alloc: Global, input: &Input) -> Result<Vec<u64>, AllocError>
     ensures { IfOk result (λ v. v.items ≡ map length input.now) }
 {
     let mut lengths = Vec::new(alloc);
@@ -168,18 +193,19 @@ fn outputs_of(
     request: &Request,
     kept: &KeptPlan<'_>,
     watch: &dyn Progress,
-) -> Result<(Vec<Vec<u8>>, FlatGroups), AllocError>
+) -> Result<(Vec<Vec<u8>>, FlatGroups, u64), AllocError>
     requires some { 0 < kept.now.cut.size }
     requires size { kept.now.cut.size ≡ request.now.split }
-    ensures { IfOk result (λ r. AreOutputs request.now kept.now (contents r.0.items) r.1) }
+    ensures outputs { IfOk result (λ r. AreOutputs request.now kept.now (contents r.0.items) r.1) }
+    ensures silent { IfOk result (λ r. r.2 ≡ silent_of request.now.job kept.now) }
 {
     // Files within the limits of an input emit fewer pairs than a u32 numbers.
     let _files = kept.plan().input().files();
-    let emitted = gather(alloc, request.job(), kept, watch)?;
+    let (emitted, silent) = gather(alloc, request.job(), kept, watch)?;
     watch.report(Phase::Reducing, 0, 1);
-    let made = outputs(alloc, request, kept, emitted)?;
+    let (texts, groups) = outputs(alloc, request, kept, emitted)?;
     watch.report(Phase::Reducing, 1, 1);
-    Ok(made)
+    Ok((texts, groups, silent))
 }
 
 fn execute(
@@ -188,27 +214,36 @@ fn execute(
     plan: &Plan<'_>,
     skips: &[RecordName],
     watch: &dyn Progress,
-) -> Result<(Vec<Vec<u8>>, Certificate), RunFault>
+) -> Result<Executed, RunFault>
     requires some { 0 < plan.now.size }
     requires size { plan.now.size ≡ request.now.split }
     requires few { length skips.now < 2 ^ 32 }
     requires fault { skip_fault request.now plan.now.files skips.now ≡ None }
-    ensures count { IfOk result (λ r. length r.0.items ≡ request.now.parts) }
+    ensures count { IfOk result (λ r. length r.outputs.items ≡ request.now.parts) }
     ensures texts { IfOk result (λ r. (p : ℕ) → p < request.now.parts
-        → nth_file (contents r.0.items) p ≡ sequential request.now plan.now.files skips.now p) }
+        → nth_file (contents r.outputs.items) p ≡ sequential request.now plan.now.files skips.now p) }
     ensures certificate { IfOk result
-        (λ r. r.1 ≡ certificate_of request.now plan.now.files skips.now) }
+        (λ r. r.certificate ≡ certificate_of request.now plan.now.files skips.now) }
     ensures is_good { IfOk result
-        (λ r. IsGood request.now plan.now.files (contents r.0.items) r.1) }
+        (λ r. IsGood request.now plan.now.files (contents r.outputs.items) r.certificate) }
+    ensures records { IfOk result (λ r. r.records
+        ≡ length (named_records request.now.split plan.now.files)) }
+    ensures silent { IfOk result (λ r. r.silent
+        ≡ silent_count request.now.job request.now.split plan.now.files skips.now) }
     ensures only { IfErr result (λ e. e ≡ RunFault.OutOfMemory) }
 {
     // An input has few enough files, and a request few enough partitions, for a certificate.
     let _files = plan.input().files();
     let _parts = request.parts();
     let kept = plan.without(alloc, skips)?;
-    let (texts, groups) = outputs_of(alloc, request, &kept, watch)?;
+    let (texts, groups, silent) = outputs_of(alloc, request, &kept, watch)?;
     let header = header_of(alloc, request, plan.input(), skips)?;
-    Ok((texts, Certificate::of(header, groups)))
+    Ok(Executed {
+        outputs: texts,
+        certificate: Certificate::of(header, groups),
+        records: plan.count() as u64,
+        silent,
+    })
 }
 
 /// Entries of partitions with good groups are distinct, already by names, keys and partitions, so

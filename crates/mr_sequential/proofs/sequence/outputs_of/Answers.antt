@@ -5,7 +5,7 @@ use Rattle.mr_input.specs.Files.{total_size}
 use Rattle.mr_jobs.specs.JobSpec.{JobSpec}
 use Rattle.mr_splits.specs.Cut.{Cut, records_of}
 use Rattle.mr_splits.specs.Kept.{Choice}
-use Rattle.mr_sequential.specs.Names.{AreEmitted, triples_of}
+use Rattle.mr_sequential.specs.Names.{AreEmitted, silent_of, triples_of}
 use Rattle.mr_sequential.proofs.SourceLemmas.{few_pairs, triple-count}
 use Rattle.mr_sequential.proofs.sequence.outputs_of.Goals as goal
 
@@ -34,7 +34,7 @@ outputs-requires-clause-few g c =
     let job : JobSpec = c.job.result.now in
     omega (
       arith,
-      ap length c.in_ok-emitted.ensures.keys_are,
+      ap length c.in_ok-emitted.ensures.emitted.keys_are,
       length-map (triples_of job c.args.kept.now) (λ (t : Triple). t.key),
       few job c.args.kept.now c.input.result.now c.plan.result.now c.files-files.result c.plan.ensures c.input.ensures
           c.files-files.ensures.count c.files-files.ensures.few c.files-files.ensures.small,
@@ -42,4 +42,8 @@ outputs-requires-clause-few g c =
 
 pub outputs-requires-clause-emitted : goal.outputs-requires-clause-emitted
 outputs-requires-clause-emitted g c =
-    subst (λ (j : JobSpec). AreEmitted j c.args.kept.now c.in_ok-emitted.emitted.keys c.in_ok-emitted.emitted.names) c.job.ensures.same c.in_ok-emitted.ensures
+    subst (λ (j : JobSpec). AreEmitted j c.args.kept.now c.in_ok-emitted.emitted.keys c.in_ok-emitted.emitted.names) c.job.ensures.same c.in_ok-emitted.ensures.emitted
+
+pub returns-clause-silent : goal.returns-clause-silent
+returns-clause-silent g c =
+    c.in_ok-emitted.ensures.silent ∙ ap (λ (j : JobSpec). silent_of j c.args.kept.now) c.job.ensures.same
