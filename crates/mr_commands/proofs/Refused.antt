@@ -1,10 +1,14 @@
 -- What the program says, and why it says nothing.
-use Rattle.std.proofs.Common.{◌≡◌, ℕ, true, Option, None, List, inr, ap, sym, ◌∙◌, subst, length, [], ◌∷◌, ◌++◌}
+use Rattle.std.proofs.Common.{◌≡◌, ◌<◌, ℕ, true, Option, None, Some, List, inr, ap, sym, ◌∙◌, subst, length, [], ◌∷◌, ◌++◌}
 use Rattle.std.proofs.lemmas.List.{length-map}
 use Rattle.std.specs.Prelude.{Vec}
 use Rattle.std.specs.Global.{Global}
-use Rattle.mr_input.specs.Files.{contents}
-use Rattle.mr_sequential.specs.Emitted.{emitted}
+use Rattle.mr_input.specs.Files.{contents, nth_file}
+use Rattle.mr_splits.specs.Named.{named_records}
+use Rattle.mr_sequential.specs.Emitted.{emitted, silent_count}
+use Rattle.mr_sequential.specs.Sequential.{sequential}
+use Rattle.mr_commands.specs.Facts.{IsKnownWork, KnowsJob}
+use Rattle.mr_commands.specs.declared.counts.JobFacts.{JobFacts}
 use Rattle.mr_files.specs.Refusals.{IsWriteRefusal}
 use Rattle.mr_files.specs.declared.store.FileFault.{FileFault}
 use Rattle.mr_args.specs.declared.fault.Fault.{Fault}
@@ -57,6 +61,32 @@ works_out holds known o run outputs bytes line i apart h l some = record {
   result = subst (λ (v : RequestSpec). IsSequentialResult o.version v run.input run.skips.items outputs bytes) i.request h;
   said = subst (λ (v : RequestSpec). line ≡ done_line v.parts (length (emitted v.job v.split run.input run.skips.items)) (length run.skips.items)) i.request l;
   pairs = subst (λ (v : RequestSpec). HasPairs o.need_pairs (length (emitted v.job v.split run.input run.skips.items))) i.request some;
+}
+
+-- what the work knows besides
+pub known_work : (holds : Stored) (o : SeqOptions) (run : RunInput) (outputs : List (List ℕ)) (line : List ℕ) (pairs : ℕ) (job : JobFacts)
+    → IsRunInput holds o.options o.skips.now run → ((p : ℕ) → p < run.request.parts → nth_file outputs p ≡ sequential run.request run.input run.skips.items p)
+    → line ≡ done_line run.request.parts (length (emitted run.request.job run.request.split run.input run.skips.items)) (length run.skips.items)
+    → pairs ≡ length (emitted run.request.job run.request.split run.input run.skips.items)
+    → KnowsJob run.input outputs (Some (length (named_records run.request.split run.input)))
+    (Some (silent_count run.request.job run.request.split run.input run.skips.items)) (Some (length run.skips.items)) (Some pairs) job
+    → IsKnownWork holds o line job
+known_work holds o run outputs line pairs job i texts l p knows = record {
+  files = run.input;
+  names = run.skips.items;
+  outputs = outputs;
+  input = i.input;
+  spelled = i.spelled;
+  texts = subst (λ (v : RequestSpec). (p : ℕ) → p < v.parts → nth_file outputs p ≡ sequential v run.input run.skips.items p) i.request texts;
+  said = subst (λ (v : RequestSpec). line ≡ done_line v.parts (length (emitted v.job v.split run.input run.skips.items)) (length run.skips.items)) i.request l;
+  knows = record {
+    inputs = knows.inputs;
+    parts = knows.parts;
+    records_are = knows.records_are ∙ ap (λ (v : RequestSpec). Some (length (named_records v.split run.input))) i.request;
+    silent_are = knows.silent_are ∙ ap (λ (v : RequestSpec). Some (silent_count v.job v.split run.input run.skips.items)) i.request;
+    left_out_are = knows.left_out_are;
+    pairs_are = knows.pairs_are ∙ ap Some p ∙ ap (λ (v : RequestSpec). Some (length (emitted v.job v.split run.input run.skips.items))) i.request;
+  };
 }
 
 -- pairs are needed, and there are none

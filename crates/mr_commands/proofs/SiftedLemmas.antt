@@ -36,7 +36,7 @@ use Rattle.mr_args.specs.declared.request.ExplainOptions.{ExplainOptions}
 use Rattle.mr_args.specs.declared.request.Options.{Options}
 use Rattle.mr_args.specs.Asked.{request_asked}
 use Rattle.mr_commands.specs.Explains.{AnswersExplain, Compares, IsComparedPart, IsSought, source_told, sources_from}
-use Rattle.mr_commands.specs.Inputs.{AreRead, IsUnreadInput}
+use Rattle.mr_commands.specs.Inputs.{AreRead, IsInput, IsUnreadInput}
 use Rattle.mr_commands.specs.Named.{input_names, stretch_of}
 use Rattle.mr_commands.specs.Sifted.{AsksAlone, HasSifted, IsSiftedFile, IsSiftedRun, StandsSifted, TakesAll, keeps, names_of, whole_stretch, wholes}
 use Rattle.mr_commands.specs.declared.sifted.SiftedFiles.{SiftedFiles}
@@ -69,13 +69,14 @@ whole_range file = record {
 -- ---- files one behind another
 
 module _ (holds : Stored) (so : List ℕ → Type 0) (size most : ℕ) where
-  pub none_sifted : (s : SiftedFiles) → s.sources.items ≡ [] → s.excerpts.items ≡ [] → s.left ≡ 2 ^ 30 → s.splits ≡ 0 → HasSifted holds so size most [] s
-  none_sifted s sources excerpts left splits = record {
+  pub none_sifted : (s : SiftedFiles) → s.sources.items ≡ [] → s.excerpts.items ≡ [] → s.lengths.items ≡ [] → s.left ≡ 2 ^ 30 → s.splits ≡ 0 → HasSifted holds so size most [] s
+  none_sifted s sources excerpts lengths left splits = record {
     files = [];
     names_are = refl;
     stand = tt;
     sources = ap (map heading_of) sources;
     excerpts = ap contents excerpts;
+    lengths = lengths;
     left = omega (arith, left);
     splits = splits ∙ sym (split_total-end size [] 0 (omega arith));
   }
@@ -85,8 +86,9 @@ module _ (holds : Stored) (so : List ℕ → Type 0) (size most : ℕ) where
       → all ≡ names ++ name ∷ [] → HasSifted holds so size most names old → IsSiftedFile holds name so old.left most s
       → map heading_of new.sources.items ≡ map heading_of old.sources.items ++ map (λ f. f.0) (map (as_file name) (map kept_lines s.excerpts.items))
       → contents new.excerpts.items ≡ contents old.excerpts.items ++ map (λ f. f.1) (map (as_file name) (map kept_lines s.excerpts.items))
+      → new.lengths.items ≡ old.lengths.items ++ s.length ∷ []
       → new.left + s.length ≡ old.left → new.splits ≡ old.splits + (s.length + size - 1) / size → HasSifted holds so size most all new
-  one_more names all name old new s is h f sources excerpts left splits =
+  one_more names all name old new s is h f sources excerpts lengths left splits =
       let x : SiftedFile = record { name = name; file = f.file; kept = map kept_lines s.excerpts.items } in
       let head : Heading × List ℕ → Heading = λ p. p.0 in
       let text : Heading × List ℕ → List ℕ = λ p. p.1 in
@@ -104,6 +106,7 @@ module _ (holds : Stored) (so : List ℕ → Type 0) (size most : ℕ) where
         });
         sources = sources ∙ ap (λ (l : List Heading). l ++ map head (kept_files x)) h.sources ∙ sym (map-append head (flat_map kept_files h.files) (kept_files x)) ∙ sym (ap (map head) kept);
         excerpts = excerpts ∙ ap (λ (l : List (List ℕ)). l ++ map text (kept_files x)) h.excerpts ∙ sym (map-append text (flat_map kept_files h.files) (kept_files x)) ∙ sym (ap (map text) kept);
+        lengths = lengths ∙ (λ i. h.lengths i ++ f.length_is i ∷ []) ∙ sym (map-append (length {A = ℕ}) (wholes h.files) (f.file ∷ [])) ∙ sym (ap (map (length {A = ℕ})) whole);
         left = omega (arith, h.left, left, f.length_is, ap total_size whole, sizes_more (wholes h.files) f.file);
         splits = splits ∙ ap (λ (n : ℕ). n + (s.length + size - 1) / size) h.splits ∙ ap (λ (n : ℕ). split_total size (wholes h.files) + (n + size - 1) / size) f.length_is
             ∙ sym (splits_more size (wholes h.files) f.file) ∙ sym (ap (split_total size) whole);
@@ -114,11 +117,12 @@ module _ (holds : Stored) (so : List ℕ → Type 0) (size most : ℕ) where
       → i < length names → name ≡ get_or names i [] → HasSifted holds so size most (take i names) old → IsSiftedFile holds name so old.left most s
       → map heading_of new.sources.items ≡ map heading_of old.sources.items ++ map (λ f. f.0) (map (as_file name) (map kept_lines s.excerpts.items))
       → contents new.excerpts.items ≡ contents old.excerpts.items ++ map (λ f. f.1) (map (as_file name) (map kept_lines s.excerpts.items))
+      → new.lengths.items ≡ old.lengths.items ++ s.length ∷ []
       → new.left + s.length ≡ old.left → new.splits ≡ old.splits + (s.length + size - 1) / size → HasSifted holds so size most (take (i + 1) names) new
-  next_sifted names i name old new s less is h f sources excerpts left splits =
+  next_sifted names i name old new s less is h f sources excerpts lengths left splits =
       let next : take (i + 1) names ≡ take i names ++ name ∷ [] =
       ap (λ k. take k names) (let e : i + 1 ≡ suc i = omega arith in e) ∙ take-suc names i [] less ∙ ap (λ (n : List ℕ). take i names ++ n ∷ []) (sym is) in
-      one_more (take i names) (take (i + 1) names) name old new s next h f sources excerpts left splits
+      one_more (take i names) (take (i + 1) names) name old new s next h f sources excerpts lengths left splits
 
   taken_all : (fs : List SiftedFile) → AllByRecursion (StandsSifted holds so most) fs → AreTakenFrom holds (names_of fs) 0 None (wholes fs) true
   taken_all [] h = refl
@@ -235,13 +239,12 @@ none_compared a b (Key key) text status h = h
 none_compared a b Nothing text status h = h
 
 -- what is printed over what was kept is what is asked for over the whole files
-pub explained_sifted : (holds : Stored) (o : ExplainOptions) (run : SiftedRun) (kept : Query) (before after : Seen) (r : Result ℕ Fault)
-    → IfOk r (λ status. (text : List ℕ) × Compares kept kept.wanted None text status × (after ≡ flushed (with_bytes before (explanation kept ++ text))))
+pub explained_sifted : (holds : Stored) (o : ExplainOptions) (run : SiftedRun) (kept : Query) (before after : Seen) (status : ℕ)
+    → ((text : List ℕ) × Compares kept kept.wanted None text status × (after ≡ flushed (with_bytes before (explanation kept ++ text))))
     → AsksAlone o → IsSiftedRun holds o.options kept.wanted run → kept.job.now ≡ run.request.job → kept.plan.now.files ≡ run.input → kept.skips.now ≡ []
     → kept.sources.now ≡ run.sources.items → IsSought (option_map (λ s. s.now) o.key) kept.wanted → kept.limit ≡ o.limit
-    → IfOk r (λ status. AnswersExplain holds o before after status)
-explained_sifted holds o run kept before after (Err e) p a h job plan skips sources sought limit = tt
-explained_sifted holds o run kept before after (Ok status) p a h job plan skips sources sought limit =
+    → AnswersExplain holds o before after status
+explained_sifted holds o run kept before after status p a h job plan skips sources sought limit =
     let request : RequestSpec = request_asked o.options in
     let whole : Query = record {
       job = record { ref_ptr = (0, 0); now = request.job };
@@ -279,3 +282,8 @@ explained_sifted holds o run kept before after (Ok status) p a h job plan skips 
       said = none_compared kept whole kept.wanted p.0 status p.1;
       printed = p.2 ∙ ap (λ (e : List ℕ). flushed (with_bytes before (e ++ p.0))) same;
     }
+
+-- the whole files are the input
+pub sifted_input : (holds : Stored) (o : Options) (wanted : Wanted) (run : SiftedRun) → TakesAll o → (h : IsSiftedRun holds o wanted run) → IsInput holds (stretch_of o) o.split (wholes h.files)
+sifted_input holds o wanted run a h =
+    (true, record { taken = taken_of holds (IsUnwanted (request_asked o).job wanted) o.split h.most o h.files a h.names_are h.stand; fits = h.fits })

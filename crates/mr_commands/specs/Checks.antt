@@ -1,8 +1,10 @@
 -- What `check` answers, over the files of a store.
-use Rattle.std.specs.Prelude.{◌≡◌, ◌⊎◌, ℕ, ◌∷◌, ◌++◌, ◌<◌, ◌≤◌, Bool, IsSome, IfSome, Ok, Err, List, [], length, slice_index_or, Contains, ⊤, string_bytes}
+use Rattle.std.specs.Prelude.{◌≡◌, ◌≢◌, ◌⊎◌, ℕ, ◌∷◌, ◌++◌, ◌<◌, ◌≤◌, Bool, IsSome, IfSome, Result, Ok, Err, List, [], length, slice_index_or, Contains, ⊤, string_bytes}
 use Rattle.mr_bytes.specs.declared.RecordName.{RecordName}
 use Rattle.mr_jobs.specs.JobSpec.{RequestSpec}
 use Rattle.mr_verdict.specs.declared.answers.No.{No}
+use Rattle.mr_verdict.specs.declared.answers.No.TheVariants as no
+use Rattle.mr_verdict.specs.declared.answers.Yes.{Yes}
 use Rattle.mr_verdict.specs.Headline.{IsCertified}
 use Rattle.mr_verdict.specs.Verdict.{verdict_of}
 use Rattle.mr_files.specs.Holding.{Faulty, Holding, Stored}
@@ -29,6 +31,11 @@ abbrev pub IsJudged : RequestSpec → List (List ℕ) → List (List ℕ) → Li
 IsJudged request files outputs bytes text status =
     ((status ≡ 0) × (skips : List RecordName) × (pairs : ℕ) × (text ≡ yes_text pairs skips) × IsYes request files outputs bytes skips pairs)
     ⊎ ((status ≡ 1) × (fault : No) × (text ≡ no_line fault) × (verdict_of request files outputs bytes ≡ Err fault))
+
+-- 0 and the pairs and left-out records of a yes are told, or 1 and the fault of a no
+abbrev pub SaysAnswer : Result Yes No → List ℕ → ℕ → Type 0
+SaysAnswer (Ok y) text status = (status ≡ 0) × (text ≡ yes_text y.pairs y.skips.items)
+SaysAnswer (Err e) text status = (e ≢ no.OutOfMemory) × (status ≡ 1) × (text ≡ no_line e)
 
 -- a file of the result can't be read
 abbrev pub IsResultRefusal : Faulty → List (List ℕ) → Fault → Type 0

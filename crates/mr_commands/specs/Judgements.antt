@@ -1,5 +1,5 @@
 -- The judgement of a result, from what was read of it to what is said and kept. No public clause stands on it.
-use Rattle.std.specs.Prelude.{◌≡◌, ◌≢◌, ◌⊎◌, ℕ, Bool, List, Option, None, IfSome, Result, Ok, Err, option_map, string_bytes}
+use Rattle.std.specs.Prelude.{◌≡◌, ◌⊎◌, ℕ, Bool, List, Option, None, IfSome, Result, Ok, Err, option_map, string_bytes}
 use Rattle.mr_input.specs.Files.{contents}
 use Rattle.mr_jobs.specs.JobSpec.{RequestSpec}
 use Rattle.mr_verdict.specs.declared.answers.No.{No}
@@ -14,12 +14,11 @@ use Rattle.mr_args.specs.declared.request.CheckOptions.{CheckOptions}
 use Rattle.mr_args.specs.declared.request.Options.{Options}
 use Rattle.mr_args.specs.declared.fault.Fault.{Fault}
 use Rattle.mr_args.specs.Asked.{request_asked}
-use Rattle.mr_commands.specs.Checks.{IsResultRefusal, IsYes}
+use Rattle.mr_commands.specs.Checks.{IsResultRefusal, IsYes, SaysAnswer}
+use Rattle.mr_commands.specs.Facts.{AreAnswerFacts}
 use Rattle.mr_commands.specs.Inputs.{IsTakenInput}
 use Rattle.mr_commands.specs.Named.{AreClear, read_by_check, stretch_of, verdict_file, written_by_check}
-use Rattle.mr_commands.specs.NoLines.{no_line}
 use Rattle.mr_commands.specs.Verdicts.{verdict_about}
-use Rattle.mr_commands.specs.YesLines.{yes_text}
 use Rattle.mr_commands.specs.declared.check_job.CheckJob.{CheckJob}
 use Rattle.mr_commands.specs.declared.check_job.Judgement.{Judgement}
 use Rattle.mr_commands.specs.declared.check_job.ResultBytes.{ResultBytes}
@@ -32,8 +31,7 @@ IsAnswer request files outputs bytes (Err e) = (e ≡ OutOfMemory) ⊎ (verdict_
 
 -- what is said of an answer
 abbrev pub IsSaid : Result Yes No → CommandOutput → Type 0
-IsSaid (Ok y) said = (said.status ≡ 0) × (string_bytes said.text ≡ yes_text y.pairs y.skips.items)
-IsSaid (Err e) said = (e ≢ OutOfMemory) × (said.status ≡ 1) × (string_bytes said.text ≡ no_line e)
+IsSaid answer said = SaysAnswer answer (string_bytes said.text) said.status
 
 -- the text that is kept of an answer on outputs: that of the verdict of a yes, where a name is given for it
 abbrev pub text_kept : RequestSpec → CheckOptions → List (List ℕ) → Bool → List (List ℕ) → Result Yes No → Option (List ℕ)
@@ -46,6 +44,7 @@ pub record IsJudgement (request : RequestSpec) (asked : CheckOptions) (files : L
   pub answer : Result Yes No
   pub right : IsAnswer request files outputs bytes answer
   pub said : IsSaid answer j.said
+  pub facts : AreAnswerFacts files answer j.said.facts
   pub kept : option_map (λ v. v.items) j.verdict ≡ text_kept request asked files ends outputs answer
 
 -- these outputs and these bytes of a certificate stand under the names of a result

@@ -5,6 +5,7 @@ pub mod Runs
 pub mod Merges
 pub mod Verifies
 pub mod Explains
+pub mod Facts
 pub mod Commands
 pub mod NoLines
 pub mod YesLines

@@ -74,6 +74,7 @@ pub record HasSifted (holds : Stored) (so : List ℕ → Type 0) (size most : �
   pub stand : AllByRecursion (StandsSifted holds so most) files
   pub sources : map heading_of s.sources.items ≡ headings files
   pub excerpts : contents s.excerpts.items ≡ keeps files
+  pub lengths : s.lengths.items ≡ map length (wholes files)
   pub left : total_size (wholes files) + s.left ≡ 2 ^ 30
   pub splits : s.splits ≡ split_total size (wholes files)
 
@@ -88,3 +89,4 @@ pub record IsSiftedRun (holds : Stored) (o : Options) (wanted : Wanted) (r : Sif
   pub fits : split_total o.split (wholes files) ≤ 2 ^ 20
   pub sources : map heading_of r.sources.items ≡ headings files
   pub input : r.input ≡ keeps files
+  pub lengths : r.lengths.items ≡ map length (wholes files)

@@ -169,7 +169,7 @@ impl<'a> CheckJob<'a> {
         ensures memory { IfErr result (λ e. e ≡ Fault.OutOfMemory) }
     {
         let answer = self.verdict(rt, alloc, held, watch);
-        let said = say(alloc, &answer)?;
+        let said = say(alloc, self.input, &answer)?;
         let verdict = self.verdict_text(alloc, held.outputs.as_slice(), &answer)?;
         Ok(Judgement { said, verdict })
     }
@@ -250,7 +250,7 @@ impl<'a> CheckJob<'a> {
         }
         let answer = self.answer(store, alloc, accepted, watch)?;
         if self.keeps_nothing(&answer) {
-            let said = say(alloc, &answer)?;
+            let said = say(alloc, self.input, &answer)?;
             return Ok(Judgement {
                 said,
                 verdict: None,

@@ -1,8 +1,7 @@
 //! The sequential command, and the choice among all commands.
-ghost use Rattle.std.specs.Prelude.{◌≡◌, ℕ, ◌≤◌, ◌^◌, List, IfOk, IfErr, None, OnOk, length, map, true};
+ghost use Rattle.std.specs.Prelude.{◌≡◌, ℕ, ◌≤◌, ◌<◌, ◌^◌, List, IfOk, IfErr, None, Some, OnOk, length, map, true};
 ghost use Rattle.std.specs.Prelude.{string_bytes};
-ghost use Rattle.mr_input.specs.Files.{contents, split_total};
-ghost use Rattle.mr_sequential.specs.Emitted.{emitted};
+ghost use Rattle.mr_input.specs.Files.{contents, nth_file, split_total};
 ghost use Rattle.mr_commands.specs.Outcomes.{IsSequentialResult, done_line};
 ghost use Rattle.mr_certform.specs.declared.version.Version.{Version};
 ghost use Rattle.mr_certform.specs.Value.{CanSpell, SpellsIn};
@@ -12,9 +11,14 @@ ghost use Rattle.mr_commands.specs.Answers.{HasPairs, WorksOut};
 ghost use Rattle.mr_sequential.specs.Skips.{skip_fault};
 ghost use Rattle.mr_commands.specs.Named.{input_names};
 ghost use Rattle.mr_commands.specs.OldVerdicts.{ChangesOver};
+ghost use Rattle.mr_splits.specs.Named.{named_records};
+ghost use Rattle.mr_sequential.specs.Emitted.{emitted, silent_count};
+ghost use Rattle.mr_sequential.specs.Sequential.{sequential};
+ghost use Rattle.mr_commands.specs.Facts.{AreSeqFacts, HasFacts, IsKnownWork, KnowsJob};
 ghost use Rattle.mr_commands.specs.Commands.{Answers, ChangesOwn, IsRefusal, PrintsOwn};
 ghost use Rattle.mr_files.specs.Names.{result_names};
 
+use crate::counts::{Facts, JobFacts, sizes_of};
 use crate::explaining::explain;
 use crate::input::{RunInput, run_input_of};
 use crate::judging::check;
@@ -27,7 +31,7 @@ use mr_args::{Fault, Options, SeqOptions, Subcommand};
 use mr_bytes::Progress;
 use mr_certform::{Certificate, Version, VersionedCertificate, text_law};
 use mr_files::{Store, add_names};
-use mr_sequential::run_watched;
+use mr_sequential::{lengths_of, run_watched};
 use mr_spill::Scratch;
 use mr_store::CountedWrite;
 use std::alloc::{AllocError, Global};
@@ -42,6 +46,7 @@ struct Work {
     certificate: Certificate,
     pairs: u64,
     line: String,
+    job: JobFacts,
 }
 
 /// Runs the request. It makes the line before a file is written, so nothing fails after the last.
@@ -57,20 +62,36 @@ fn run_request(alloc: Global, run: RunInput, watch: &dyn Progress) -> Result<Wor
     ensures line { IfOk result (λ w. string_bytes w.line ≡ done_line run.request.parts
         (length (emitted run.request.job run.request.split run.input run.skips.items))
         (length run.skips.items)) }
+    ensures texts { IfOk result (λ w. (p : ℕ) → p < run.request.parts
+        → nth_file (contents w.outputs.items) p
+        ≡ sequential run.request run.input run.skips.items p) }
+    ensures job { IfOk result (λ w. KnowsJob run.input (contents w.outputs.items)
+        (Some (length (named_records run.request.split run.input)))
+        (Some (silent_count run.request.job run.request.split run.input run.skips.items))
+        (Some (length run.skips.items)) (Some w.pairs) w.job) }
     ensures refused { IfErr result (λ e. IsRunRefusal run.request run.input run.skips.items e) }
 {
     let skips = run.skips.as_slice();
-    let (outputs, certificate) = run_watched(alloc, &run.request, &run.input, skips, watch)?;
+    let made = run_watched(alloc, &run.request, &run.input, skips, watch)?;
     let left_out = run.skips.len();
+    let pairs = made.certificate.total();
+    let job = JobFacts {
+        inputs: lengths_of(alloc, &run.input)?,
+        parts: sizes_of(alloc, made.outputs.as_slice())?,
+        records: Some(made.records),
+        silent: Some(made.silent),
+        left_out: Some(left_out as u64),
+        pairs: Some(pairs),
+    };
     // Free what is done before asking for more memory.
     drop(run);
-    let pairs = certificate.total();
-    let line = done_line(alloc, outputs.len(), pairs, left_out)?;
+    let line = done_line(alloc, made.outputs.len(), pairs, left_out)?;
     Ok(Work {
-        outputs,
-        certificate,
+        outputs: made.outputs,
+        certificate: made.certificate,
         pairs,
         line,
+        job,
     })
 }
 
@@ -97,6 +118,7 @@ fn test_and_work<S: Store>(
         → WorksOut (S.holds store.now) (S.known_as store.now) asked.now
         (contents w.outputs.items) bytes (string_bytes w.line)) }
     ensures can { IfOk result (λ w. AllByRecursion (CanSpell asked.now.version) w.certificate.groups) }
+    ensures facts { IfOk result (λ w. IsKnownWork (S.holds store.now) asked.now (string_bytes w.line) w.job) }
     ensures refused { IfErr result (IsUnworked (S.holds store.now)
         (S.unreadable store.now) (S.known_as store.now) asked.now) }
 {
@@ -136,6 +158,8 @@ pub fn seq<S: Store>(
     ensures status { IfOk result (λ said. said.status ≡ 0) }
     ensures done { IfOk result (λ said. AnswersSeq (S.holds store.old) (S.holds store.new)
         (S.unreadable store.old) (S.known_as store.old) asked.now (string_bytes said.text)) }
+    ensures facts { IfOk result (λ said. AreSeqFacts (S.holds store.old) asked.now
+        (string_bytes said.text) said.facts) }
     ensures others { ChangesOver (S.holds store.old) (S.holds store.new) asked.now.options.out.now
         (result_names asked.now.options.out.now asked.now.options.parts) }
     ensures refused { IfErr result (λ e. IsSeqRefusal (S.holds store.old) (S.holds store.new)
@@ -153,6 +177,7 @@ pub fn seq<S: Store>(
     Ok(CommandOutput {
         text: work.line,
         status: 0,
+        facts: Facts::Job(work.job),
     })
 }
 
@@ -168,6 +193,9 @@ pub fn execute<S: Store, C: Scratch, R: Threads + Wait + Sync, W: CountedWrite>(
     ensures answers { IfOk result (λ said. Answers (S.holds store.old) (S.holds store.new)
         (S.unreadable store.old) (S.known_as store.old) asked.now (W.seen out.old) (W.seen out.new)
         (string_bytes said.text) said.status) }
+    ensures facts { IfOk result (λ said. HasFacts (S.holds store.old) (S.holds store.new)
+        (S.known_as store.old) asked.now (W.seen out.old) (W.seen out.new)
+        (string_bytes said.text) said.status said.facts) }
     ensures others { ChangesOwn (S.holds store.old) (S.holds store.new) asked.now }
     ensures prints { PrintsOwn asked.now (W.seen out.old) (W.seen out.new) }
     ensures refused { IfErr result (λ e. IsRefusal (S.holds store.old) (S.holds store.new)

@@ -8,7 +8,8 @@ ghost use Rattle.std.specs.Prelude.{◌≡◌, ◌<◌, ◌^◌, ◌++◌, None,
 ghost use Rattle.std.specs.Prelude.{length, map, option_map, string_bytes};
 ghost use Rattle.mr_args.specs.Asked.{RangeStands};
 ghost use Rattle.mr_explain.specs.Compared.{answer_of};
-ghost use Rattle.mr_explain.specs.Explained.{explanation};
+ghost use Rattle.mr_explain.specs.Explained.{explanation, kept_of, left_out_of};
+ghost use Rattle.mr_explain.specs.Walking.{AreCounts};
 ghost use Rattle.mr_sequential.specs.Skips.{skip_fault};
 ghost use Rattle.mr_store.specs.Devices.{flushed, with_bytes};
 ghost use Rattle.mr_commands.specs.Answers.{IsRunRefusal};
@@ -17,9 +18,11 @@ ghost use Rattle.mr_commands.specs.Explains.{IsComparedPart, IsExplainUnanswered
 ghost use Rattle.mr_commands.specs.Explains.{IsPrintFault, IsSought, ReportsUnread, first_name};
 ghost use Rattle.mr_commands.specs.Explains.{line_said, part_of_key, source_told, sources_from};
 ghost use Rattle.mr_commands.specs.Explains.{status_said};
+ghost use Rattle.mr_commands.specs.Facts.{AreExplainFacts};
 ghost use Rattle.mr_commands.specs.Inputs.{IsRunInput};
 ghost use Rattle.mr_commands.specs.Sifted.{AsksAlone};
 
+use crate::counts::Facts;
 use crate::feeds::count_feeds_before;
 use crate::input::{RunInput, run_input_of};
 use crate::sifted::sift_input;
@@ -27,12 +30,13 @@ use crate::texts::CommandOutput;
 use mr_args::{ExplainOptions, Fault, Options};
 use mr_bytes::RecordName;
 use mr_explain::{
-    Comparison, ExplainFault, Query, SourceFile, Wanted, compare, group_text, plan_excerpts,
+    Comparison, ExplainFault, Explained, Query, SourceFile, Wanted, compare, group_text,
+    plan_excerpts,
 };
 use mr_files::{Store, part_name, read_file};
 use mr_jobs::Request;
 use mr_partition::partition_by;
-use mr_sequential::RunFault;
+use mr_sequential::{RunFault, lengths_of};
 use mr_splits::{Plan, SkipFault};
 use mr_store::{CountedWrite, write_all};
 use std::alloc::{AllocError, Global};
@@ -204,27 +208,47 @@ fn put_answer<W: CountedWrite>(
     Ok(status_of(answer))
 }
 
-/// Prints the evidence and the answer on the part, and flushes. Returns the status.
+/// Prints the evidence and the answer on the part, and flushes. Returns the status, and what was
+/// counted.
 fn print_all<W: CountedWrite>(
     alloc: Global,
     query: &Query<'_>,
     part: Option<&[u8]>,
     out: &mut W,
-) -> Result<u8, Fault>
+) -> Result<(u8, Explained), Fault>
     requires few { length query.now.skips.now < 2 ^ 32 }
     requires one_each { length query.now.sources.now ≡ length query.now.plan.now.files }
-    ensures printed { IfOk result (λ status. (text : List ℕ)
-        × Compares query.now query.now.wanted (option_map (λ p. p.now) part.entry) text status
+    ensures printed { IfOk result (λ r. (text : List ℕ)
+        × Compares query.now query.now.wanted (option_map (λ p. p.now) part.entry) text r.0
         × (W.seen out.new ≡ flushed (with_bytes (W.seen out.old) (explanation query.now ++ text)))) }
+    ensures kept { IfOk result
+        (λ r. AreCounts query.now.job.now query.now.wanted (kept_of query.now) r.1.kept) }
+    ensures left_out { IfOk result
+        (λ r. AreCounts query.now.job.now query.now.wanted (left_out_of query.now) r.1.left_out) }
     ensures refused { IfErr result IsPrintFault }
 {
-    if let Err(fault) = mr_explain::explain(alloc, query, out) {
-        return Err(fault_of(fault));
-    }
+    let explained = match mr_explain::explain(alloc, query, out) {
+        Ok(explained) => explained,
+        Err(fault) => return Err(fault_of(fault)),
+    };
     let status = put_answer(alloc, query, part, out)?;
     match out.flush() {
-        Ok(()) => Ok(status),
+        Ok(()) => Ok((status, explained)),
         Err(_) => Err(Fault::CannotPrint),
+    }
+}
+
+/// The output of what is printed already.
+fn output_of(alloc: Global, inputs: Vec<u64>, printed: (u8, Explained)) -> CommandOutput
+    ensures text { string_bytes result.text ≡ [] }
+    ensures status { result.status ≡ printed.0 }
+    ensures facts { result.facts ≡ Facts.Evidence inputs printed.1 }
+{
+    let (status, explained) = printed;
+    CommandOutput {
+        text: String::new(alloc),
+        status,
+        facts: Facts::Evidence(inputs, explained),
     }
 }
 
@@ -235,10 +259,13 @@ fn explain_input<S: Store, W: CountedWrite>(
     asked: &ExplainOptions<'_>,
     run: &RunInput,
     out: &mut W,
-) -> Result<u8, Fault>
+) -> Result<CommandOutput, Fault>
     requires { IsRunInput (S.holds store.now) asked.now.options asked.now.skips.now run.now }
-    ensures answers { IfOk result (λ status. AnswersExplain (S.holds store.now) asked.now
-        (W.seen out.old) (W.seen out.new) status) }
+    ensures text { IfOk result (λ said. string_bytes said.text ≡ []) }
+    ensures answers { IfOk result (λ said. AnswersExplain (S.holds store.now) asked.now
+        (W.seen out.old) (W.seen out.new) said.status) }
+    ensures facts { IfOk result (λ said. AreExplainFacts (S.holds store.now) asked.now
+        (W.seen out.old) (W.seen out.new) said.facts) }
     ensures refused { IfErr result (IsExplainUnanswered (S.holds store.now)
         (S.unreadable store.now) (S.known_as store.now) asked.now (W.seen out.old) (W.seen out.new)) }
 {
@@ -250,6 +277,7 @@ fn explain_input<S: Store, W: CountedWrite>(
     let lines = lines_before(store, alloc, options)?;
     let sources = sources_of(alloc, options.files.as_slice(), lines, options.from)?;
     let part = compared_part(store, alloc, request, asked)?;
+    let inputs = lengths_of(alloc, &run.input)?;
     let query = Query {
         job: request.job(),
         plan: &plan,
@@ -258,7 +286,8 @@ fn explain_input<S: Store, W: CountedWrite>(
         wanted: wanted_of(asked.key),
         limit: asked.limit,
     };
-    print_all(alloc, &query, part.as_deref(), out)
+    let printed = print_all(alloc, &query, part.as_deref(), out)?;
+    Ok(output_of(alloc, inputs, printed))
 }
 
 /// Whether a key's evidence is all that is asked for, over whole files and all of their records.
@@ -275,15 +304,19 @@ fn explain_sifted<S: Store, W: CountedWrite>(
     alloc: Global,
     asked: &ExplainOptions<'_>,
     out: &mut W,
-) -> Result<u8, Fault>
+) -> Result<CommandOutput, Fault>
     requires { AsksAlone asked.now }
-    ensures answers { IfOk result (λ status. AnswersExplain (S.holds store.now) asked.now
-        (W.seen out.old) (W.seen out.new) status) }
+    ensures text { IfOk result (λ said. string_bytes said.text ≡ []) }
+    ensures answers { IfOk result (λ said. AnswersExplain (S.holds store.now) asked.now
+        (W.seen out.old) (W.seen out.new) said.status) }
+    ensures facts { IfOk result (λ said. AreExplainFacts (S.holds store.now) asked.now
+        (W.seen out.old) (W.seen out.new) said.facts) }
     ensures refused { IfErr result (IsExplainUnanswered (S.holds store.now)
         (S.unreadable store.now) (S.known_as store.now) asked.now (W.seen out.old) (W.seen out.new)) }
 {
     let wanted = wanted_of(asked.key);
     let run = sift_input(store, alloc, &asked.options, wanted)?;
+    let inputs = run.lengths;
     let plan = plan_excerpts(alloc, &run.input)?;
     let query = Query {
         job: run.request.job(),
@@ -293,7 +326,8 @@ fn explain_sifted<S: Store, W: CountedWrite>(
         wanted,
         limit: asked.limit,
     };
-    print_all(alloc, &query, None, out)
+    let printed = print_all(alloc, &query, None, out)?;
+    Ok(output_of(alloc, inputs, printed))
 }
 
 /// Explains over files that are held whole.
@@ -302,9 +336,12 @@ fn explain_whole<S: Store, W: CountedWrite>(
     alloc: Global,
     asked: &ExplainOptions<'_>,
     out: &mut W,
-) -> Result<u8, Fault>
-    ensures answers { IfOk result (λ status. AnswersExplain (S.holds store.now) asked.now
-        (W.seen out.old) (W.seen out.new) status) }
+) -> Result<CommandOutput, Fault>
+    ensures text { IfOk result (λ said. string_bytes said.text ≡ []) }
+    ensures answers { IfOk result (λ said. AnswersExplain (S.holds store.now) asked.now
+        (W.seen out.old) (W.seen out.new) said.status) }
+    ensures facts { IfOk result (λ said. AreExplainFacts (S.holds store.now) asked.now
+        (W.seen out.old) (W.seen out.new) said.facts) }
     ensures refused { IfErr result (IsExplainUnanswered (S.holds store.now)
         (S.unreadable store.now) (S.known_as store.now) asked.now (W.seen out.old) (W.seen out.new)) }
 {
@@ -323,16 +360,14 @@ pub fn explain<S: Store, W: CountedWrite>(
     ensures text { IfOk result (λ said. string_bytes said.text ≡ []) }
     ensures answers { IfOk result (λ said. AnswersExplain (S.holds store.now) asked.now
         (W.seen out.old) (W.seen out.new) said.status) }
+    ensures facts { IfOk result (λ said. AreExplainFacts (S.holds store.now) asked.now
+        (W.seen out.old) (W.seen out.new) said.facts) }
     ensures refused { IfErr result (IsExplainUnanswered (S.holds store.now)
         (S.unreadable store.now) (S.known_as store.now) asked.now (W.seen out.old) (W.seen out.new)) }
 {
-    let status = if sifts(asked) {
-        explain_sifted(store, alloc, asked, out)?
+    if sifts(asked) {
+        explain_sifted(store, alloc, asked, out)
     } else {
-        explain_whole(store, alloc, asked, out)?
-    };
-    Ok(CommandOutput {
-        text: String::new(alloc),
-        status,
-    })
+        explain_whole(store, alloc, asked, out)
+    }
 }

@@ -9,6 +9,7 @@ ghost use Rattle.mr_commands.specs.Checks.{AreGoodThreads, IsCheckRefusal, IsFir
 ghost use Rattle.mr_commands.specs.Checks.{IsNameRefusal, IsOptionRefusal};
 ghost use Rattle.mr_args.specs.Asked.{RangeStands};
 ghost use Rattle.mr_commands.specs.Inputs.{IsInputRefusal, IsTakenInput};
+ghost use Rattle.mr_commands.specs.Facts.{AreCheckFacts};
 ghost use Rattle.mr_commands.specs.Judgements.{Judges, AnswersResult, files_judged};
 ghost use Rattle.mr_commands.specs.Named.{AreClear, read_by_check, stretch_of, verdict_file};
 ghost use Rattle.mr_commands.specs.Named.{written_by_check};
@@ -164,6 +165,8 @@ pub fn check<S: Store, R: Threads + Sync>(
 ) -> Result<CommandOutput, Fault>
     ensures answer { IfOk result (λ said. KeepsVerdict (S.holds store.old) (S.holds store.new)
         (S.known_as store.old) asked.now (string_bytes said.text) said.status) }
+    ensures facts { IfOk result (λ said. AreCheckFacts (S.holds store.old) asked.now.options
+        (string_bytes said.text) said.status said.facts) }
     ensures others { ChangesAmong (S.holds store.old) (S.holds store.new) (written_by_check asked.now) }
     ensures refused { IfErr result (λ e. IsCheckUnanswered (S.holds store.old)
         (S.holds store.new) (S.unreadable store.old) (S.unwritable store.old)

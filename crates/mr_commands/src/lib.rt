@@ -4,6 +4,7 @@
 mod accepting;
 mod check_job;
 mod commands;
+mod counts;
 mod explaining;
 mod feeds;
 mod input;
@@ -16,6 +17,7 @@ mod texts;
 mod verifying;
 
 pub use crate::commands::{execute, seq};
+pub use crate::counts::{Facts, JobFacts};
 pub use crate::explaining::explain;
 pub use crate::judging::check;
 pub use crate::merging::merge;

@@ -2,9 +2,11 @@
 ghost use Rattle.std.specs.Prelude.{◌≡◌, ◌+◌, ◌≤◌, ◌++◌, [], IfErr, IfOk, length, string_bytes};
 ghost use Rattle.std.specs.Prelude.{string_capacity, string_len};
 ghost use Rattle.mr_shard_files.specs.Merging.{ChangesResult};
+ghost use Rattle.mr_commands.specs.Facts.{AreMergeFacts};
 ghost use Rattle.mr_commands.specs.Merges.{AnswersMerge, IsMergeUnanswered};
 ghost use Rattle.mr_commands.specs.Merges.{result_line as line_of_result};
 
+use crate::counts::Facts;
 use crate::texts::CommandOutput;
 use itoa::Buffer;
 use mr_args::{Fault, MergeOptions};
@@ -61,6 +63,8 @@ pub fn merge<S: Store, T: Threads>(
     ensures status { IfOk result (λ said. said.status ≡ 0) }
     ensures done { IfOk result (λ said. AnswersMerge (S.holds store.old) (S.holds store.new)
         (S.known_as store.old) asked.now (string_bytes said.text)) }
+    ensures facts { IfOk result (λ said. AreMergeFacts (S.holds store.old) (S.holds store.new)
+        (S.known_as store.old) asked.now said.facts) }
     ensures others { ChangesResult (S.holds store.old) (S.holds store.new) asked.now.out.now }
     ensures refused { IfErr result (λ e. IsMergeUnanswered (S.holds store.old)
         (S.holds store.new) (S.unreadable store.old) (S.unwritable store.old)
@@ -75,5 +79,9 @@ pub fn merge<S: Store, T: Threads>(
     };
     let joined = merge_shards(rt, store, alloc, &plan)?;
     let text = result_line(room, "merged: ", &joined);
-    Ok(CommandOutput { text, status: 0 })
+    Ok(CommandOutput {
+        text,
+        status: 0,
+        facts: Facts::Verdict(joined),
+    })
 }

@@ -20,8 +20,10 @@ ghost use Rattle.mr_commands.specs.Runs.{written_by_run};
 ghost use Rattle.mr_commands.specs.OldVerdicts.{ChangesOver};
 ghost use Rattle.mr_files.specs.Names.{name_of_verdict};
 ghost use Rattle.mr_script.specs.Scripts.{SpellsScript};
+ghost use Rattle.mr_commands.specs.Facts.{AreLengths, AreRanFacts, AreRunFacts, KnowsRan, sizes};
 
 use crate::commands::expect_pairs;
+use crate::counts::{Facts, JobFacts, sizes_of};
 use crate::input::{FileNames, input_of, name_given};
 use crate::old_verdicts::{old_verdict, write_over};
 use crate::texts::{CommandOutput, certified_line, failed_line, fault_text, history_text};
@@ -35,6 +37,7 @@ use mr_input::Input;
 use mr_jobs::Request;
 use mr_pool::{Certified, Environment, RunFault, RunSpec, run_watched, shape_of};
 use mr_script::Script;
+use mr_sequential::lengths_of;
 use mr_spill::{MemoryStore, RegionStore, Scratch, ScratchFault};
 use mr_store::Bytes;
 use std::alloc::{AllocError, Global};
@@ -246,14 +249,15 @@ fn run_job<C: Scratch, R: Threads + Wait + Sync>(
 
 /// Tests, in this order: the request, the numbers, the script, the files, that none of these is
 /// written, their fit, that none is a region's, that no other run uses the directory. Then runs;
-/// writes nothing.
+/// writes nothing, and tells how many bytes are taken of each file too.
 fn test_and_run<S: Store, C: Scratch, R: Threads + Wait + Sync>(
     machine: &Machine<'_, C, R>,
     store: &S,
     asked: &RunOptions<'_>,
     watch: &dyn Progress,
-) -> Result<RunOutcome, Fault>
-    ensures runs { IfOk result (λ ran. Runs (S.holds store.now) (S.known_as store.now) asked.now ran) }
+) -> Result<(RunOutcome, Vec<u64>), Fault>
+    ensures runs { IfOk result (λ r. Runs (S.holds store.now) (S.known_as store.now) asked.now r.0) }
+    ensures inputs { IfOk result (λ r. AreLengths (S.holds store.now) asked.now.options r.1.items) }
     ensures refused { IfErr result (λ e. IsStartRefusal (S.holds store.now)
         (S.unreadable store.now) (S.alike store.now) (S.known_as store.now) asked.now e) }
 {
@@ -263,6 +267,7 @@ fn test_and_run<S: Store, C: Scratch, R: Threads + Wait + Sync>(
     let script = script_of(store, alloc, asked.script)?;
     let input = input_apart(store, alloc, &request, asked)?;
     expect_scratch_apart(store, alloc, asked)?;
+    let inputs = lengths_of(alloc, &input)?;
     let spec = RunSpec {
         request: &request,
         input: &input,
@@ -270,27 +275,54 @@ fn test_and_run<S: Store, C: Scratch, R: Threads + Wait + Sync>(
         shape: shape_of(&request, &input, asked.workers, asked.attempts),
         version: asked.version,
     };
-    run_job(machine, asked.scratch, spec, watch)
+    let ran = run_job(machine, asked.scratch, spec, watch)?;
+    Ok((ran, inputs))
 }
 
-fn output_of(alloc: Global, ran: &RunOutcome) -> Result<CommandOutput, AllocError>
-    ensures { IfOk result (λ said. ReportsRan ran.now (string_bytes said.text) said.status) }
+/// The line of a run, and the status.
+fn line_of(alloc: Global, ran: &RunOutcome) -> Result<(String, u8), AllocError>
+    ensures { IfOk result (λ r. ReportsRan ran.now (string_bytes r.0) r.1) }
 {
     match ran {
         RunOutcome::Certified(done) => {
             let text = certified_line(alloc, done.outputs.len(), done.pairs, done.skips.len())?;
-            Ok(CommandOutput { text, status: 0 })
+            Ok((text, 0))
         }
-        RunOutcome::Failed(fault, _) => {
-            let text = failed_line(alloc, *fault)?;
-            Ok(CommandOutput { text, status: 1 })
-        }
+        RunOutcome::Failed(fault, _) => Ok((failed_line(alloc, *fault)?, 1)),
         RunOutcome::Uncertified(no, _) => {
             let fault = fault_text(alloc, no)?;
-            let text = format!(in alloc; "uncertified: {fault}\n")?;
-            Ok(CommandOutput { text, status: 1 })
+            Ok((format!(in alloc; "uncertified: {fault}\n")?, 1))
         }
     }
+}
+
+/// What is known of a run over files of which so many bytes are taken.
+fn job_of(alloc: Global, inputs: Vec<u64>, ran: &RunOutcome) -> Result<JobFacts, AllocError>
+    ensures { IfOk result (λ job. (files : List (List ℕ)) → inputs.items ≡ sizes files → KnowsRan files ran.now job) }
+{
+    match ran {
+        RunOutcome::Certified(done) => Ok(JobFacts::uncounted(
+            inputs,
+            sizes_of(alloc, done.outputs.as_slice())?,
+            Some(done.skips.len() as u64),
+            Some(done.pairs),
+        )),
+        _ => Ok(JobFacts::uncounted(inputs, Vec::new(alloc), None, None)),
+    }
+}
+
+fn output_of(alloc: Global, inputs: Vec<u64>, ran: &RunOutcome) -> Result<CommandOutput, AllocError>
+    ensures told { IfOk result (λ said. ReportsRan ran.now (string_bytes said.text) said.status) }
+    ensures facts { IfOk result (λ said. (files : List (List ℕ)) → inputs.items ≡ sizes files
+        → AreRanFacts files ran.now said.facts) }
+{
+    let (text, status) = line_of(alloc, ran)?;
+    let facts = Facts::Job(job_of(alloc, inputs, ran)?);
+    Ok(CommandOutput {
+        text,
+        status,
+        facts,
+    })
 }
 
 fn history_of(ran: &RunOutcome) -> &History
@@ -387,6 +419,8 @@ pub fn run<S: Store, C: Scratch, R: Threads + Wait + Sync>(
 ) -> Result<CommandOutput, Fault>
     ensures done { IfOk result (λ said. AnswersRun (S.holds store.old) (S.holds store.new)
         (S.unreadable store.old) (S.known_as store.old) asked.now (string_bytes said.text) said.status) }
+    ensures facts { IfOk result (λ said. AreRunFacts (S.holds store.old) (S.known_as store.old)
+        asked.now (string_bytes said.text) said.status said.facts) }
     ensures others { ChangesOver (S.holds store.old) (S.holds store.new)
         asked.now.options.out.now (written_by_run asked.now) }
     ensures refused { IfErr result
@@ -394,12 +428,12 @@ pub fn run<S: Store, C: Scratch, R: Threads + Wait + Sync>(
         (S.unwritable store.old) (S.alike store.old) (S.known_as store.old) asked.now e) }
 {
     let (rt, alloc) = (machine.rt, machine.alloc);
-    let ran = test_and_run(machine, store, asked, watch)?;
+    let (ran, inputs) = test_and_run(machine, store, asked, watch)?;
     expect_pairs_made(asked.need_pairs, &ran)?;
     let names = names_of_run(alloc, asked)?;
     let out = asked.options.out;
     let verdict = old_verdict(store, alloc, out, names.as_slice())?;
-    let said = output_of(alloc, &ran)?;
+    let said = output_of(alloc, inputs, &ran)?;
     keep_history(store, alloc, asked.history, history_of(&ran))?;
     keep_result(rt, store, alloc, verdict.as_deref(), out, ran)?;
     Ok(said)

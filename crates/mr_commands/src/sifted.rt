@@ -5,7 +5,7 @@
 //!
 //! What is refused is what would be refused of the whole files, in the same order.
 //! Cost: one pass over the files. It holds what is kept of them, and 64 KiB.
-ghost use Rattle.std.specs.Prelude.{◌≡◌, [], ◌++◌, ◌+◌, ◌-◌, ◌*◌, ◌/◌, ◌<◌, ◌≤◌, ◌^◌, IfErr, IfOk, None, OnOk, ℕ};
+ghost use Rattle.std.specs.Prelude.{◌≡◌, [], ◌++◌, ◌∷◌, ◌+◌, ◌-◌, ◌*◌, ◌/◌, ◌<◌, ◌≤◌, ◌^◌, IfErr, IfOk, None, OnOk, ℕ};
 ghost use Rattle.std.specs.Prelude.{length, map};
 ghost use Rattle.mr_input.specs.Files.{contents};
 ghost use Rattle.mr_files.specs.Ranges.{IsRangeRefusal};
@@ -30,6 +30,8 @@ pub(crate) struct SiftedFiles<'n> {
     /// How each excerpt is printed.
     sources: Vec<SourceFile<'n>>,
     excerpts: Vec<Vec<u8>>,
+    /// How many bytes each file has.
+    lengths: Vec<u64>,
     /// How many bytes may still be read.
     left: u64,
     /// How many splits the whole files have.
@@ -42,6 +44,8 @@ pub(crate) struct SiftedRun<'n> {
     pub request: Request,
     pub sources: Vec<SourceFile<'n>>,
     pub input: Input,
+    /// How many bytes each whole file has.
+    pub lengths: Vec<u64>,
 }
 
 /// Sifts the file of that name.
@@ -139,11 +143,14 @@ impl<'n> SiftedFiles<'n> {
         ensures excerpts { OnOk result (contents self.new.excerpts.items
             ≡ contents self.old.excerpts.items
             ++ map (λ f. f.1) (map (as_file name.entry.now) (map kept_lines sifted.excerpts.items))) }
+        ensures lengths { OnOk result (self.new.lengths.items
+            ≡ self.old.lengths.items ++ sifted.length ∷ []) }
         ensures left { OnOk result (self.new.left + sifted.length ≡ self.old.left) }
         ensures splits { OnOk result (self.new.splits
             ≡ self.old.splits + (sifted.length + size - 1) / size) }
         ensures small { OnOk result (self.new.splits + self.new.left ≤ 2 ^ 30) }
     {
+        self.lengths.push(sifted.length)?;
         self.left -= sifted.length;
         self.splits += split_count(sifted.length, size);
         add_excerpts(
@@ -173,6 +180,7 @@ fn sift_files<'n, S: Store>(
     let mut files = SiftedFiles {
         sources: Vec::new(alloc),
         excerpts: Vec::new(alloc),
+        lengths: Vec::new(alloc),
         left: MAX_BYTES as u64,
         splits: 0,
     };
@@ -226,12 +234,13 @@ pub(crate) fn sift_input<'n, S: Store>(
 {
     let request = request_of(alloc, options)?;
     let files = sift_fitting(store, alloc, &request, options.files.as_slice(), wanted)?;
-    let sources = files.sources;
+    let (sources, lengths) = (files.sources, files.lengths);
     match Input::of(files.excerpts) {
         Ok(input) => Ok(SiftedRun {
             request,
             sources,
             input,
+            lengths,
         }),
         // What is kept is no more than the files, which are an input.
         Err(fault) => Err(Fault::Input(fault)),

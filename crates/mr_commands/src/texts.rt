@@ -1,6 +1,7 @@
 //! The lines that commands print, and the history of a run as text: a line for the shape of its book,
 //! and a line for each event.
 ghost use Rattle.std.specs.Prelude.{◌≡◌, ◌++◌, IfErr, IfOk, OnOk, string_bytes, decimal};
+ghost use Rattle.mr_commands.specs.Facts.{AreAnswerFacts};
 ghost use Rattle.mr_commands.specs.Judgements.{IsSaid};
 ghost use Rattle.mr_commands.specs.YesLines.{left_out_line, yes_line, yes_text};
 ghost use Rattle.mr_commands.specs.Outcomes.{done_line};
@@ -11,18 +12,22 @@ ghost use Rattle.mr_commands.specs.HistoryLines.{end_text, entry_line, event_tex
 ghost use Rattle.mr_commands.specs.HistoryLines.{history_text, map_text, reply_text, shape_line};
 ghost use Rattle.mr_commands.specs.HistoryLines.{without_text};
 
+use crate::counts::{Facts, JobFacts};
 use mr_args::Fault;
 use mr_book::{History, HistoryEntry};
 use mr_bytes::RecordName;
 use mr_check::{No, Yes};
 use mr_core::{End, Event, JobFault, Reply, Shape, Skips};
+use mr_input::Input;
+use mr_sequential::lengths_of;
 use std::alloc::{AllocError, Global};
 
-/// What the program prints on standard output, and its exit status.
+/// What the program prints on standard output, its exit status, and what is known besides.
 #[derive(Drop)]
 pub struct CommandOutput {
     pub text: String,
     pub status: u8,
+    pub facts: Facts,
 }
 
 pub(crate) fn yes_line(alloc: Global, pairs: u64, left_out: usize) -> Result<String, AllocError>
@@ -49,20 +54,38 @@ pub(crate) fn yes_text(alloc: Global, yes: &Yes) -> Result<String, AllocError>
     Ok(text)
 }
 
-/// The output for an answer; want of memory is a fault.
-pub(crate) fn say(alloc: Global, answer: &Result<Yes, No>) -> Result<CommandOutput, Fault>
+/// The output for an answer over the input; want of memory is a fault.
+pub(crate) fn say(
+    alloc: Global,
+    input: &Input,
+    answer: &Result<Yes, No>,
+) -> Result<CommandOutput, Fault>
     ensures memory { IfErr result (λ e. e ≡ Fault.OutOfMemory) }
     ensures said { IfOk result (IsSaid answer.now) }
+    ensures facts { IfOk result (λ said. AreAnswerFacts input.now answer.now said.facts) }
 {
+    let inputs = lengths_of(alloc, input)?;
+    let none = Vec::new(alloc);
     match answer {
         Ok(yes) => {
             let text = yes_text(alloc, yes)?;
-            Ok(CommandOutput { text, status: 0 })
+            let left_out = yes.skips.len() as u64;
+            let job = JobFacts::uncounted(inputs, none, Some(left_out), Some(yes.pairs));
+            Ok(CommandOutput {
+                text,
+                status: 0,
+                facts: Facts::Job(job),
+            })
         }
         Err(No::OutOfMemory) => Err(Fault::OutOfMemory),
         Err(no) => {
             let text = no_line(alloc, no)?;
-            Ok(CommandOutput { text, status: 1 })
+            let job = JobFacts::uncounted(inputs, none, None, None);
+            Ok(CommandOutput {
+                text,
+                status: 1,
+                facts: Facts::Job(job),
+            })
         }
     }
 }

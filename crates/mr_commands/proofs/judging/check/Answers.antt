@@ -34,6 +34,18 @@ returns-clause-answer g c =
     keeps (g.S.Store.holds c.args.store.now) (g.S.Store.known_as c.args.store.now) c.args.asked.now c.in_ok-said.field-0 c.in_ok-said.ensures.judges (g.S.Store.holds c.keep.new.store)
     c.in_ok-keep.ensures.kept c.keep.ensures.others
 
+pub returns-clause-facts : goal.returns-clause-facts
+returns-clause-facts g c =
+    let j = c.in_ok-said.ensures.judges in
+    record {
+      files = j.files;
+      ends = j.ends;
+      answer = j.judgement.answer;
+      input = j.input;
+      said = j.judgement.said;
+      knows = j.judgement.facts;
+    }
+
 pub returns-clause-others : goal.returns-clause-others
 returns-clause-others g c =
     kept_among (g.S.Store.holds c.args.store.now) (g.S.Store.holds c.keep.new.store) (verdict_file c.args.asked.now) (option_map (λ v. v.items) c.in_ok-said.field-0.verdict) c.keep.ensures.others

@@ -99,12 +99,24 @@ returns-clause-done g c =
       ran = ran;
       runs = runs;
       pairs = c.in_ok-expect_pairs_made.ensures.some;
-      told = c.in_ok-said.ensures;
+      told = c.in_ok-said.ensures.told;
       verdict = verdict;
       stood = there;
       apart = apart;
       result = result_kept old mid new known verdict o ran runs c.keep_history.ensures.others c.keep_result.ensures.others c.in_ok-keep_result.ensures.kept;
       history = history_kept old mid new known verdict o ran runs c.keep_result.ensures.others kept;
+    }
+
+pub returns-clause-facts : goal.returns-clause-facts
+returns-clause-facts g c =
+    let (files, input, lengths) = c.in_ok-ran.ensures.inputs in
+    record {
+      ran = c.in_ok-ran.ran;
+      files = files;
+      runs = c.in_ok-ran.ensures.runs;
+      input = input;
+      told = c.in_ok-said.ensures.told;
+      knows = c.in_ok-said.ensures.facts files lengths;
     }
 
 pub returns-clause-others : goal.returns-clause-others

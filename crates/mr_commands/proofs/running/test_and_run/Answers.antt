@@ -1,7 +1,10 @@
 use Rattle.std.proofs.Common.{inl, inr, subst}
-use Rattle.std.proofs.lemmas.Result.{err_from_is_err_and, IfErr-weaker, IfOk-weaker}
+use Rattle.std.proofs.lemmas.Result.{err_from_is_err_and}
 use Rattle.mr_core.specs.declared.event.Shape.{Shape}
-use Rattle.mr_commands.specs.Runs.{AreGood, EndsOver, IsScratchRefusal, IsStartRefusal, Runs, scratch_name}
+use Rattle.mr_jobs.specs.JobSpec.{RequestSpec}
+use Rattle.mr_commands.specs.Inputs.{IsInput}
+use Rattle.mr_commands.specs.Named.{stretch_of}
+use Rattle.mr_commands.specs.Runs.{AreGood, EndsOver, scratch_name}
 use Rattle.mr_commands.proofs.JudgingRefused.{asked}
 use Rattle.mr_commands.proofs.Kept.{script_stage, input_stage, scratch_stage, runs}
 use Rattle.mr_commands.proofs.running.test_and_run.Goals as goal
@@ -43,13 +46,17 @@ returns-clause-runs g c =
     let request = c.in_ok-request.request in
     let files = c.in_ok-input.input in
     let script = c.in_ok-script.script in
-    IfOk-weaker c.run_job.result
-    (λ ran. EndsOver (scratch_name o) request files script c.shape_of.result o.version ran)
-    (λ ran. Runs holds known o ran)
-    (λ ran h. runs holds (g.S.Store.unreadable c.args.store.now) (g.S.Store.alike c.args.store.now) known o script files request ran
+    runs holds (g.S.Store.unreadable c.args.store.now) (g.S.Store.alike c.args.store.now) known o script files request c.in_ok-ran.ran
     c.in_ok-request.ensures.request c.in_ok-script.ensures.script c.in_ok-input.ensures.input c.in_ok-input.ensures.apart
-    (subst (λ (shape : Shape). EndsOver (scratch_name o) request files script shape o.version ran) c.shape_of.ensures.shape h))
-    c.run_job.ensures.ends
+    (subst (λ (shape : Shape). EndsOver (scratch_name o) request files script shape o.version c.in_ok-ran.ran) c.shape_of.ensures.shape c.in_ok-ran.ensures.ends)
+
+pub returns-clause-inputs : goal.returns-clause-inputs
+returns-clause-inputs g c =
+    let o = c.args.asked.now.options in (
+      c.in_ok-input.input,
+      subst (λ (v : RequestSpec). IsInput (g.S.Store.holds c.args.store.now) (stretch_of o) v.split c.in_ok-input.input) c.in_ok-request.ensures.request c.in_ok-input.ensures.input,
+      c.in_ok-inputs.ensures,
+    )
 
 pub returns-in_err-expect_scratch_apart-clause-refused : goal.returns-in_err-expect_scratch_apart-clause-refused
 returns-in_err-expect_scratch_apart-clause-refused g c =
@@ -64,8 +71,9 @@ returns-in_err-expect_scratch_apart-clause-refused g c =
     c.in_ok-script.script c.in_ok-input.input c.in_ok-request.request c.in_err-expect_scratch_apart.field-0.0
     c.in_ok-request.ensures.request good c.in_ok-script.ensures.script c.in_ok-input.ensures.input c.in_ok-input.ensures.apart (inl c.in_err-expect_scratch_apart.ensures)))
 
-pub returns-clause-refused : goal.returns-clause-refused
-returns-clause-refused g c =
+pub returns-in_err-ran-clause-refused : goal.returns-in_err-ran-clause-refused
+returns-in_err-ran-clause-refused g c =
+    let p = err_from_is_err_and c.from_residual-in_err-ran.result c.from_residual-in_err-ran.ensures.1 in
     let holds = g.S.Store.holds c.args.store.now in
     let unreadable = g.S.Store.unreadable c.args.store.now in
     let alike = g.S.Store.alike c.args.store.now in
@@ -76,7 +84,5 @@ returns-clause-refused g c =
       workers = c.in_ok-expect_crew.ensures.workers;
       attempts = c.in_ok-expect_crew.ensures.attempts;
     } in
-    IfErr-weaker c.run_job.result (λ e. IsScratchRefusal (scratch_name o) e) (λ e. IsStartRefusal holds unreadable alike known o e)
-    (λ e h. scratch_stage holds unreadable alike known o c.in_ok-script.script c.in_ok-input.input c.in_ok-request.request e
-    c.in_ok-request.ensures.request good c.in_ok-script.ensures.script c.in_ok-input.ensures.input c.in_ok-input.ensures.apart (inr h))
-    c.run_job.ensures.refused
+    rw p.1 (rw p.2 (scratch_stage holds unreadable alike known o c.in_ok-script.script c.in_ok-input.input c.in_ok-request.request c.in_err-ran.field-0.0
+    c.in_ok-request.ensures.request good c.in_ok-script.ensures.script c.in_ok-input.ensures.input c.in_ok-input.ensures.apart (inr c.in_err-ran.ensures.refused)))

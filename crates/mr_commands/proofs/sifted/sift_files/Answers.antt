@@ -10,7 +10,7 @@ use Rattle.mr_commands.proofs.sifted.sift_files.Goals as goal
 
 pub loop-file-init : goal.loop-file-init
 loop-file-init g c = record {
-  sifted = none_sifted (g.S.Store.holds c.args.store.now) (IsUnwanted c.args.request.now.job c.args.wanted) c.args.request.now.split c.args.most _ c.new.ensures.items c.new-2.ensures.items refl refl;
+  sifted = none_sifted (g.S.Store.holds c.args.store.now) (IsUnwanted c.args.request.now.job c.args.wanted) c.args.request.now.split c.args.most _ c.new.ensures.items c.new-2.ensures.items c.new-3.ensures.items refl refl;
   small = omega arith;
 }
 
@@ -41,6 +41,6 @@ loop-file-preserved g c =
       sifted = next_sifted holds (IsUnwanted request.job c.args.wanted) request.split c.args.most names i (get_or xs i no_name).now c.loop-file.files c.add.new.self c.in-Ok.sifted
           (number_below (λ s. s.now) xs names i refl less) (name_at (λ s. s.now) xs names i no_name refl less) c.loop-file.invariant.sifted
           (subst (λ (job : JobSpec). IsSiftedFile holds (get_or xs i no_name).now (IsUnwanted job c.args.wanted) c.loop-file.files.left c.args.most c.in-Ok.sifted) c.job.ensures.same c.in-Ok.ensures.sifted)
-          added.sources added.excerpts added.left (added.splits ∙ ap (λ (n : ℕ). c.loop-file.files.splits + (c.in-Ok.sifted.length + n - 1) / n) c.split_size.ensures.same);
+          added.sources added.excerpts added.lengths added.left (added.splits ∙ ap (λ (n : ℕ). c.loop-file.files.splits + (c.in-Ok.sifted.length + n - 1) / n) c.split_size.ensures.same);
       small = added.small;
     }

@@ -12,5 +12,6 @@ returns-clause-judged g c =
       answer = answer;
       right = c.verdict-answer.ensures;
       said = c.in_ok-said.ensures.said;
+      facts = c.in_ok-said.ensures.facts;
       kept = subst (λ v. option_map (λ t. t.items) c.in_ok-verdict.verdict ≡ text_kept job.request.now job.asked.now job.input.now job.ends (contents v) answer) c.as_slice.ensures.value c.in_ok-verdict.ensures;
     }
