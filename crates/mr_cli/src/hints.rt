@@ -12,7 +12,7 @@ use mr_args::{ExplainOptions, Fault, JobKind, Options, Subcommand};
 use mr_commands::CommandOutput;
 use mr_files::{Inspect, Store};
 use std::alloc::{AllocError, Global};
-use std::io::Write;
+use std::io::{self, Write};
 
 /// The standard streams. At a terminal control bytes are escaped, and wherever hints are printed.
 #[derive(Drop)]
@@ -36,6 +36,11 @@ fn parts_of<'a>(asked: &'a Subcommand<'a>) -> (char, Option<&'a Options<'a>>) {
     }
 }
 
+/// The command's letter in the table.
+pub fn letter_of(asked: &Subcommand<'_>) -> char {
+    parts_of(asked).0
+}
+
 /// The row of an explained key: no output can write it, or the result differs.
 fn evidence_row(asked: &ExplainOptions<'_>, status: u8) -> &'static str {
     let folds = match asked.options.job {
@@ -47,6 +52,14 @@ fn evidence_row(asked: &ExplainOptions<'_>, status: u8) -> &'static str {
         return "KEY: 0 pairs";
     }
     if status == 0 { "" } else { "differs:" }
+}
+
+/// The system's reason, if it refused a file.
+pub fn reason_of<F: Inspect>(files: &F, failure: &Failure) -> Option<io::Error> {
+    match failure {
+        Failure::Command(Fault::CannotRead(_) | Fault::CannotWrite(_)) => files.last_error(),
+        _ => None,
+    }
 }
 
 /// What this input, this result or the system says of a fault; empty if it is in the table alone.
@@ -73,12 +86,10 @@ fn own_hint<F: Store + Inspect>(
                 None => Ok(String::new(alloc)),
             }
         }
-        Err(Failure::Command(Fault::CannotRead(_) | Fault::CannotWrite(_))) =>
-            match files.last_error() {
-                Some(reason) => format!(in alloc; "{reason}"),
-                None => Ok(String::new(alloc)),
-            },
-        Err(_) => Ok(String::new(alloc)),
+        Err(failure) => match reason_of(files, failure) {
+            Some(reason) => format!(in alloc; "{reason}"),
+            None => Ok(String::new(alloc)),
+        },
     }
 }
 
@@ -95,7 +106,7 @@ fn hint_for<F: Store + Inspect>(
             return Ok(own);
         }
     }
-    let letter = asked.as_ref().map(|asked| parts_of(asked).0);
+    let letter = asked.as_ref().map(|asked| letter_of(asked));
     match (answered, asked) {
         (Ok(said), Some(Subcommand::Explain(asked))) => hint(
             alloc,
@@ -154,31 +165,25 @@ impl<O: Write + Drop, E: Write + Drop> Screen<O, E> {
 
     /// Prints an answer and its hint. Returns the exit status.
     pub fn print<F: Store + Inspect>(
-        self,
+        &mut self,
         files: &F,
         asked: &Option<Subcommand<'_>>,
         answered: Result<CommandOutput, Failure>,
     ) -> u8 {
-        let Screen {
-            mut out,
-            mut err,
-            alloc,
-            is_terminal,
-            hints,
-        } = self;
-        if !is_terminal && !hints {
-            return finish(answered, &mut out, &mut err);
+        if !self.is_terminal && !self.hints {
+            return finish(answered, &mut self.out, &mut self.err);
         }
-        let hint = match hints {
+        let alloc = self.alloc;
+        let hint = match self.hints {
             true => hint_for(files, alloc, asked, &answered),
             false => Ok(String::new(alloc)),
         };
-        let status = finish_shown(alloc, answered, &mut out, &mut err);
+        let status = finish_shown(alloc, answered, &mut self.out, &mut self.err);
         if let Ok(hint) = hint
             && !hint.is_empty()
         {
-            let _ = err.write_all(b"hint: ");
-            show(alloc, &mut err, hint.as_bytes(), false);
+            let _ = self.err.write_all(b"hint: ");
+            show(alloc, &mut self.err, hint.as_bytes(), false);
         }
         status
     }

@@ -136,8 +136,8 @@ In faults, shards, files, partitions and lines count from 0.",
 Reads VERDICT, as check --verdict or merge wrote it, and each part beside it, or in DIR.
 Each must have the length and the SHA-256 in the verdict, and their lines must give its pairs: the sum of the counts of words and url, one for each line of grep; lines of an index give none.
 With --with-inputs each file of the input, or the range of it that was judged, is read too, by the name in the verdict, from where this command runs. What a file has behind its range is not looked at.
-It doesn't judge: a verdict holds no signature, and who can change it can change the parts with it. Writes no file.
-Exit status: 0 verified, 1 other files than the verdict's, 2 usage or a limit, 3 a file that can't be read, 4 want of memory.
+It doesn't judge: a verdict holds no signature, and who can change it can change the parts with it. Writes no file but the report.
+Exit status: 0 verified, 1 other files than the verdict's, 2 usage or a limit, 3 a file that can't be read, or the report that can't be written, 4 want of memory.
 
 In faults, partitions, inputs and lines count from 0.",
     },
@@ -158,8 +158,8 @@ KEY is as an output writes it: words and index, without --keep-case, write no up
 With --none it prints the records that give nothing, and then `nothing: 0 pairs in M records`.
 Records of --skips that would have given KEY come last, each behind `left out:`, and then `left out: N pairs in M records`. N and M before count none of them, and nothing is printed where there are none.
 With --out the lines that DIR's part has for KEY are compared with those that the kept records give: `agrees`, or `differs: LINE` with the first other line of the part, or `differs: no line`.
-Give the options that the result was made with. DIR is only read, and no file is written.
-Exit status: 0 printed, and DIR agrees, 1 DIR differs, 2 usage or a limit, 3 a file that can't be read or standard output that can't be written, 4 want of memory.",
+Give the options that the result was made with. DIR is only read, and no file is written but the report.
+Exit status: 0 printed, and DIR agrees, 1 DIR differs, 2 usage or a limit, 3 a file that can't be read, or standard output or the report that can't be written, 4 want of memory.",
     },
 ];
 
@@ -172,7 +172,7 @@ pub const JOBS: [&str; 4] = ["words", "grep", "url", "index"];
 
 pub const HINTS: [&str; 3] = ["auto", "always", "never"];
 
-pub const OPTIONS: [&str; 37] = [
+pub const OPTIONS: [&str; 38] = [
     "srce | --job <JOB> | job | words: count words; grep: find lines; url: count what a log's lines request; index: list the files of each word || needed",
     "srce | --keep-case | flag | words, index: take Word and word apart",
     "srce | --literal <TEXT> | text | grep: the text to look for | 1 to 4096 bytes in one line",
@@ -204,6 +204,7 @@ pub const OPTIONS: [&str; 37] = [
     "m | --inputs <LIST> | path | the inputs that are meant, in order, as sha256sum lists them || any",
     "m | --partial | flag | the first input may begin inside its file, and the last one may end before its file does",
     "v | --with-inputs | flag | the files of the input are tested too",
+    "srcmve | --report <FILE> | path | where the facts of the answer are written last, as one JSON object || nowhere",
     "srcmve | --hints <WHEN> | hints | print what helps against a fault, and the system's reason, on standard error: auto does where that is a terminal || auto",
     "srce | [FILE]... | any files | the input files, in order: at most 1024, of 1 GiB in all",
     "m | <VERDICT>... | some verdicts | the verdicts of the shards, in order, each beside the parts that it lists || needed",
@@ -212,7 +213,7 @@ pub const OPTIONS: [&str; 37] = [
     "p | -V, --version | help | print the version",
 ];
 
-pub const FAULTS: [&str; 85] = [
+pub const FAULTS: [&str; 87] = [
     "r | failed: NoWorkers | every worker is lost: the script loses them (--workers W makes more), or none can keep a region (see that the directory of --scratch is there, may be written to, and has room)",
     "r | failed: TooManySkips | more records fail than --max-skips K lets be left out; K is 0 where it isn't given",
     "r | failed: TooManyAttempts | a task has had --attempts A attempts, 8 where it isn't given, and none completed it",
@@ -277,9 +278,10 @@ pub const FAULTS: [&str; 85] = [
     "srce | TooManyFiles | at most 1024 files: join some with cat, or cut the input into several runs",
     "m | TooManyFiles | files of all shards are numbered in 32 bits: merge fewer shards",
     "srce | TooLarge | at most 1 GiB (1073741824 bytes) in all files: cut the input into several runs, also inside a file by --from and --to",
-    "sm | SameFile <FILE> | it is read, or written under another name, and would be lost: give another DIR",
-    "r | SameFile <FILE> | of the result, or the history: it is read, or written under another name, and would be lost: give another name",
-    "c | SameFile <FILE> | the verdict would be written over a file that is read: give it another name",
+    "sm | SameFile <FILE> | it is read, or written under another name, and would be lost: give another DIR, or the report another name",
+    "r | SameFile <FILE> | of the result, the history or the report: it is read, or written under another name, and would be lost: give another name",
+    "c | SameFile <FILE> | the verdict or the report would be written over a file that is read or written: give it another name",
+    "ve | SameFile <FILE> | the report would be written over a file that is read: give it another name",
     "srce | TooManySplits | at most 1048576 splits: a greater --split, up to 67108864, makes fewer",
     "se | TooManySkips | --skips names more records than --max-skips K allows; K is 0 where it isn't given",
     "se | NoSuchRecord | --skips names a record that isn't there: splits, and records in each split, count from 0",
@@ -288,9 +290,10 @@ pub const FAULTS: [&str; 85] = [
     "sr | NoPairs | the files are empty, or none is named, or no record gives a pair",
     "srm | NotFresh <DIR> | with --fresh DIR isn't there yet, or is empty: name another, or empty it",
     "srm | cannot write <DIR> | with --fresh DIR is missing or an empty directory, no link and no mount point, doesn't end in .. and isn't . or /, and the directory that holds it is there and may be written",
-    "sm | cannot write <FILE> | DIR isn't there (make it first, or give --fresh), may not be written, or the disk is full",
-    "r | cannot write <FILE> | DIR isn't there (make it first, or give --fresh), may not be written, or the disk is full; the history too, which is written before the result",
-    "c | cannot write <FILE> | the verdict: its directory isn't there, may not be written, or the disk is full",
+    "sm | cannot write <FILE> | DIR isn't there (make it first, or give --fresh), may not be written, or the disk is full; the report too, which is written last",
+    "r | cannot write <FILE> | DIR isn't there (make it first, or give --fresh), may not be written, or the disk is full; the history too, which is written before the result, and the report, which is written last",
+    "c | cannot write <FILE> | the verdict or the report: its directory isn't there, may not be written, or the disk is full",
+    "ve | cannot write <FILE> | the report: its directory isn't there, may not be written, or the disk is full",
     "e | cannot write standard output | it is closed, or the disk is full; what was printed is not all",
     "s | out of memory | words take 4 to 5 times their bytes: close other programs, or cut the input into several runs",
     "r | out of memory | words take 10 to 16 times their bytes, 7 to 9 with --scratch: close other programs, use seq, or cut the input into several runs",
