@@ -66,7 +66,7 @@ def limits(harness):
         ("a long literal", [*grep, "--literal", "x" * 4097, "a"], b"LongLiteral", literal),
         ("a line feed in a literal", [*grep, "--literal", "x\ny", "a"], b"LineEndInLiteral", b"--literal holds no line feed, since lines are looked at one by one"),
         ("a line feed in a name", ["check", *WORDS, "--verdict", "v", "a", "x\ny"], b"LineEndInName file 1", b"--verdict lists each name in one line, and that of this file, counted from 0, holds a line feed: give the file another name, or a link"),
-        ("a verdict over an input", ["check", *WORDS, "--verdict", "./a", "a"], b"SameFile ./a", b"the verdict would be written over a file that is read: give it another name"),
+        ("a verdict over an input", ["check", *WORDS, "--verdict", "./a", "a"], b"SameFile ./a", b"the verdict or the report would be written over a file that is read or written: give it another name"),
         ("a range and no file", [*seq, "--to", "1"], b"NoFileForRange", b"--from and --to speak of a FILE: name it"),
         ("a range that ends before it begins", [*seq, "--from", "21", "--to", "0", "a"], b"BadRange", b"--to lies before --from"),
         ("a range behind the file", [*seq, "--to", "43", "a"], b"PastEnd file 0", b"this file, counted from 0, ends before --from or --to"),
