@@ -17,6 +17,7 @@ _mapred() {
     'seq --out') mapfile -t COMPREPLY < <(compgen -d -- "$word") && return ;;
     'seq --skips') mapfile -t COMPREPLY < <(compgen -f -- "$word") && return ;;
     'seq --cert') return ;;
+    'seq --report') mapfile -t COMPREPLY < <(compgen -f -- "$word") && return ;;
     'seq --hints') mapfile -t COMPREPLY < <(compgen -W 'auto always never' -- "$word") && return ;;
     'run --job') mapfile -t COMPREPLY < <(compgen -W 'words grep url index' -- "$word") && return ;;
     'run --literal') return ;;
@@ -32,6 +33,7 @@ _mapred() {
     'run --history') mapfile -t COMPREPLY < <(compgen -f -- "$word") && return ;;
     'run --scratch') mapfile -t COMPREPLY < <(compgen -d -- "$word") && return ;;
     'run --cert') return ;;
+    'run --report') mapfile -t COMPREPLY < <(compgen -f -- "$word") && return ;;
     'run --hints') mapfile -t COMPREPLY < <(compgen -W 'auto always never' -- "$word") && return ;;
     'check --job') mapfile -t COMPREPLY < <(compgen -W 'words grep url index' -- "$word") && return ;;
     'check --literal') return ;;
@@ -43,11 +45,14 @@ _mapred() {
     'check --out') mapfile -t COMPREPLY < <(compgen -d -- "$word") && return ;;
     'check --threads') return ;;
     'check --verdict') mapfile -t COMPREPLY < <(compgen -f -- "$word") && return ;;
+    'check --report') mapfile -t COMPREPLY < <(compgen -f -- "$word") && return ;;
     'check --hints') mapfile -t COMPREPLY < <(compgen -W 'auto always never' -- "$word") && return ;;
     'merge --out') mapfile -t COMPREPLY < <(compgen -d -- "$word") && return ;;
     'merge --inputs') mapfile -t COMPREPLY < <(compgen -f -- "$word") && return ;;
+    'merge --report') mapfile -t COMPREPLY < <(compgen -f -- "$word") && return ;;
     'merge --hints') mapfile -t COMPREPLY < <(compgen -W 'auto always never' -- "$word") && return ;;
     'verify --out') mapfile -t COMPREPLY < <(compgen -d -- "$word") && return ;;
+    'verify --report') mapfile -t COMPREPLY < <(compgen -f -- "$word") && return ;;
     'verify --hints') mapfile -t COMPREPLY < <(compgen -W 'auto always never' -- "$word") && return ;;
     'explain --job') mapfile -t COMPREPLY < <(compgen -W 'words grep url index' -- "$word") && return ;;
     'explain --literal') return ;;
@@ -60,15 +65,16 @@ _mapred() {
     'explain --limit') return ;;
     'explain --out') mapfile -t COMPREPLY < <(compgen -d -- "$word") && return ;;
     'explain --skips') mapfile -t COMPREPLY < <(compgen -f -- "$word") && return ;;
+    'explain --report') mapfile -t COMPREPLY < <(compgen -f -- "$word") && return ;;
     'explain --hints') mapfile -t COMPREPLY < <(compgen -W 'auto always never' -- "$word") && return ;;
     esac
     case "${COMP_WORDS[1]} $word" in
-    'seq -'*) mapfile -t COMPREPLY < <(compgen -W '--job --keep-case --literal --fold --by-host --parts --split --max-skips --from --to --out --fresh --need-pairs --skips --cert --hints --help' -- "$word") ;;
-    'run -'*) mapfile -t COMPREPLY < <(compgen -W '--job --keep-case --literal --fold --by-host --parts --split --max-skips --from --to --out --fresh --need-pairs --workers --attempts --script --history --scratch --cert --hints --help' -- "$word") ;;
-    'check -'*) mapfile -t COMPREPLY < <(compgen -W '--job --keep-case --literal --fold --by-host --parts --split --max-skips --from --to --out --threads --verdict --hints --help' -- "$word") ;;
-    'merge -'*) mapfile -t COMPREPLY < <(compgen -W '--out --fresh --inputs --partial --hints --help' -- "$word") ;;
-    'verify -'*) mapfile -t COMPREPLY < <(compgen -W '--out --with-inputs --hints --help' -- "$word") ;;
-    'explain -'*) mapfile -t COMPREPLY < <(compgen -W '--job --keep-case --literal --fold --by-host --parts --split --max-skips --from --to --key --none --limit --out --skips --hints --help' -- "$word") ;;
+    'seq -'*) mapfile -t COMPREPLY < <(compgen -W '--job --keep-case --literal --fold --by-host --parts --split --max-skips --from --to --out --fresh --need-pairs --skips --cert --report --hints --help' -- "$word") ;;
+    'run -'*) mapfile -t COMPREPLY < <(compgen -W '--job --keep-case --literal --fold --by-host --parts --split --max-skips --from --to --out --fresh --need-pairs --workers --attempts --script --history --scratch --cert --report --hints --help' -- "$word") ;;
+    'check -'*) mapfile -t COMPREPLY < <(compgen -W '--job --keep-case --literal --fold --by-host --parts --split --max-skips --from --to --out --threads --verdict --report --hints --help' -- "$word") ;;
+    'merge -'*) mapfile -t COMPREPLY < <(compgen -W '--out --fresh --inputs --partial --report --hints --help' -- "$word") ;;
+    'verify -'*) mapfile -t COMPREPLY < <(compgen -W '--out --with-inputs --report --hints --help' -- "$word") ;;
+    'explain -'*) mapfile -t COMPREPLY < <(compgen -W '--job --keep-case --literal --fold --by-host --parts --split --max-skips --from --to --key --none --limit --out --skips --report --hints --help' -- "$word") ;;
     *) mapfile -t COMPREPLY < <(compgen -f -- "$word") ;;
     esac
 }

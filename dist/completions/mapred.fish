@@ -22,6 +22,7 @@ complete -c mapred -n '__fish_seen_subcommand_from seq' -l fresh -d 'make DIR, o
 complete -c mapred -n '__fish_seen_subcommand_from seq' -l need-pairs -d 'refuse a result without a pair, and write nothing'
 complete -c mapred -n '__fish_seen_subcommand_from seq' -l skips -r -F -d 'records to leave out, as SPLIT:RECORD,SPLIT:RECORD [default: ""]'
 complete -c mapred -n '__fish_seen_subcommand_from seq' -l cert -x -d 'the version of the certificate; 2 takes a third to a half of the room [1 to 2] [default: 1]'
+complete -c mapred -n '__fish_seen_subcommand_from seq' -l report -r -F -d 'where the facts of the answer are written last, as one JSON object [default: nowhere]'
 complete -c mapred -n '__fish_seen_subcommand_from seq' -l hints -x -a 'auto always never' -d 'print what helps against a fault, and the system'\''s reason, on standard error: auto does where that is a terminal [default: auto]'
 complete -c mapred -n '__fish_seen_subcommand_from seq' -l help -d 'print this help'
 complete -c mapred -n '__fish_seen_subcommand_from run' -F
@@ -44,6 +45,7 @@ complete -c mapred -n '__fish_seen_subcommand_from run' -l script -r -F -d 'what
 complete -c mapred -n '__fish_seen_subcommand_from run' -l history -r -F -d 'where the events of the run are written, a line each [default: nowhere]'
 complete -c mapred -n '__fish_seen_subcommand_from run' -l scratch -x -a '(__fish_complete_directories)' -d 'a directory that exists, where what map tasks give is kept in files, of which none is removed [default: in memory]'
 complete -c mapred -n '__fish_seen_subcommand_from run' -l cert -x -d 'the version of the certificate; 2 takes a third to a half of the room [1 to 2] [default: 1]'
+complete -c mapred -n '__fish_seen_subcommand_from run' -l report -r -F -d 'where the facts of the answer are written last, as one JSON object [default: nowhere]'
 complete -c mapred -n '__fish_seen_subcommand_from run' -l hints -x -a 'auto always never' -d 'print what helps against a fault, and the system'\''s reason, on standard error: auto does where that is a terminal [default: auto]'
 complete -c mapred -n '__fish_seen_subcommand_from run' -l help -d 'print this help'
 complete -c mapred -n '__fish_seen_subcommand_from check' -F
@@ -60,6 +62,7 @@ complete -c mapred -n '__fish_seen_subcommand_from check' -l to -x -d 'take the 
 complete -c mapred -n '__fish_seen_subcommand_from check' -l out -x -a '(__fish_complete_directories)' -d 'a directory that exists, of the output files and the certificate'
 complete -c mapred -n '__fish_seen_subcommand_from check' -l threads -x -d 'how many threads judge [1 to 64] [default: 1]'
 complete -c mapred -n '__fish_seen_subcommand_from check' -l verdict -r -F -d 'where the verdict of a yes is written, which lists what was judged [default: nowhere]'
+complete -c mapred -n '__fish_seen_subcommand_from check' -l report -r -F -d 'where the facts of the answer are written last, as one JSON object [default: nowhere]'
 complete -c mapred -n '__fish_seen_subcommand_from check' -l hints -x -a 'auto always never' -d 'print what helps against a fault, and the system'\''s reason, on standard error: auto does where that is a terminal [default: auto]'
 complete -c mapred -n '__fish_seen_subcommand_from check' -l help -d 'print this help'
 complete -c mapred -n '__fish_seen_subcommand_from merge' -F
@@ -67,11 +70,13 @@ complete -c mapred -n '__fish_seen_subcommand_from merge' -l out -x -a '(__fish_
 complete -c mapred -n '__fish_seen_subcommand_from merge' -l fresh -d 'make DIR, or take it where it is empty: the result is there whole or not at all'
 complete -c mapred -n '__fish_seen_subcommand_from merge' -l inputs -r -F -d 'the inputs that are meant, in order, as sha256sum lists them [default: any]'
 complete -c mapred -n '__fish_seen_subcommand_from merge' -l partial -d 'the first input may begin inside its file, and the last one may end before its file does'
+complete -c mapred -n '__fish_seen_subcommand_from merge' -l report -r -F -d 'where the facts of the answer are written last, as one JSON object [default: nowhere]'
 complete -c mapred -n '__fish_seen_subcommand_from merge' -l hints -x -a 'auto always never' -d 'print what helps against a fault, and the system'\''s reason, on standard error: auto does where that is a terminal [default: auto]'
 complete -c mapred -n '__fish_seen_subcommand_from merge' -l help -d 'print this help'
 complete -c mapred -n '__fish_seen_subcommand_from verify' -F
 complete -c mapred -n '__fish_seen_subcommand_from verify' -l out -x -a '(__fish_complete_directories)' -d 'the directory of the parts [default: that of the verdict]'
 complete -c mapred -n '__fish_seen_subcommand_from verify' -l with-inputs -d 'the files of the input are tested too'
+complete -c mapred -n '__fish_seen_subcommand_from verify' -l report -r -F -d 'where the facts of the answer are written last, as one JSON object [default: nowhere]'
 complete -c mapred -n '__fish_seen_subcommand_from verify' -l hints -x -a 'auto always never' -d 'print what helps against a fault, and the system'\''s reason, on standard error: auto does where that is a terminal [default: auto]'
 complete -c mapred -n '__fish_seen_subcommand_from verify' -l help -d 'print this help'
 complete -c mapred -n '__fish_seen_subcommand_from explain' -F
@@ -90,5 +95,6 @@ complete -c mapred -n '__fish_seen_subcommand_from explain' -l none -d 'print th
 complete -c mapred -n '__fish_seen_subcommand_from explain' -l limit -x -d 'print at most so many records, and at most so many left-out ones [default: all]'
 complete -c mapred -n '__fish_seen_subcommand_from explain' -l out -x -a '(__fish_complete_directories)' -d 'the directory of a result, whose line of KEY is compared [default: none]'
 complete -c mapred -n '__fish_seen_subcommand_from explain' -l skips -r -F -d 'records to leave out, as SPLIT:RECORD,SPLIT:RECORD [default: ""]'
+complete -c mapred -n '__fish_seen_subcommand_from explain' -l report -r -F -d 'where the facts of the answer are written last, as one JSON object [default: nowhere]'
 complete -c mapred -n '__fish_seen_subcommand_from explain' -l hints -x -a 'auto always never' -d 'print what helps against a fault, and the system'\''s reason, on standard error: auto does where that is a terminal [default: auto]'
 complete -c mapred -n '__fish_seen_subcommand_from explain' -l help -d 'print this help'
