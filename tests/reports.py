@@ -137,6 +137,15 @@ def refused(harness):
     for words, name in rows:
         got = harness.run([*words, "--report", name], cwd=where)
         harness.check(f"{words[0]} --report {name}", got[:3] == (2, b"", b"mapred: SameFile %s\n" % name.encode()) and (read_result(where), read_result(os.path.join(where, "o"))) == before, repr(got))
+    os.symlink("o/part-00000", os.path.join(where, "to-a-part"))
+    os.link(os.path.join(where, "o", "part-00000"), os.path.join(where, "of-a-part"))
+    rows = [([*seq, "b"], name) for name in ("to-a-part", "of-a-part", "a")] + [(["verify", "--with-inputs", "o/verdict"], "a")]
+    for words, name in rows:
+        got = harness.run([*words, "--report", name], cwd=where)
+        harness.check(f"{words[0]}: no report over {name}, which isn't one", got[:3] == (2, b"", b"mapred: SameFile %s\n" % name.encode()) and (read_result(where), read_result(os.path.join(where, "o"))) == before, repr(got))
+    harness.directory({"empty": b""}, where)
+    got = harness.run([*seq, "--report", "empty", "a"], cwd=where), harness.run([*seq, "--report", "empty", "a"], cwd=where), harness.run([*seq, "--report", "/dev/null", "a"], cwd=where)
+    harness.check("a report over an empty file, over a report, to a device", [one[0] for one in got] == [0, 0, 0] and report_in(where, "empty")[0]["pairs"] == 5, repr(got))
     got = harness.run([*seq, "--report", "none/r", "a", "b"], cwd=where)
     harness.check("a report that can't be written", got[0] == 3 and got[1] == b"done: 1 files, 7 pairs, 0 left out\n" and got[2] == b"mapred: cannot write none/r\n", repr(got))
     got = harness.run(["check", *seq[1:], "a", "b"], cwd=where)

@@ -18,6 +18,7 @@ use mr_commands::{CommandOutput, Facts, JobFacts};
 use mr_explain::Explained;
 use mr_files::{Inspect, Store, add_names, first_shared, folder_of, part_name};
 use mr_shards::Verdict;
+use mr_store::CountedRead;
 use serde::Serialize;
 use serde_json::{Map, Value, put, to_string};
 use std::alloc::{AllocError, Global};
@@ -450,7 +451,24 @@ fn may_be_of_result(name: &str) -> bool {
         || ["certificate", "verdict"].contains(&last)
 }
 
-/// Refuses a report that would be written over a file that the command reads or writes.
+/// Whether a file of that name holds something else than a report. Pipes, sockets and devices, which
+/// have no identity, aren't read.
+fn holds_other<S: Store>(alloc: Global, files: &S, name: &str) -> Result<bool, AllocError> {
+    if files.identity(alloc, name)?.is_none() {
+        return Ok(false);
+    }
+    let Ok(mut reader) = files.reader(alloc, name) else {
+        return Ok(false);
+    };
+    let mut front = [0u8; 10];
+    match reader.read(&mut front) {
+        Ok(count) => Ok(count > 0 && &front[..count] != b"{\"report\":".as_slice()),
+        Err(_) => Ok(false),
+    }
+}
+
+/// Refuses a report that would be written over a file that the command reads or writes, or over
+/// any other that isn't a report.
 pub fn expect_apart<S: Store>(
     alloc: Global,
     files: &S,
@@ -462,6 +480,9 @@ pub fn expect_apart<S: Store>(
     add_names(alloc, &mut own, &[name])?;
     if let Some(shared) = first_shared(files, alloc, names.as_slice(), own.as_slice())? {
         return Err(Failure::Command(Fault::SameFile(shared)));
+    }
+    if holds_other(alloc, files, name)? {
+        return Err(Failure::Command(Fault::SameFile(String::from_str(alloc, name)?)));
     }
     if may_be_of_result(name) {
         let folders = folders_of(alloc, asked)?;
