@@ -5,7 +5,8 @@ use Rattle.mr_bytes.specs.Words.{word_spans, word_spans_from, span_bytes}
 use Rattle.mr_bytes.specs.declared.Span.{Span}
 use Rattle.mr_bytes.specs.declared.Value.{Value}
 use Rattle.mr_bytes.specs.declared.Value.TheVariants.{One, At}
-use Rattle.mr_jobs.specs.JobSpec.{JobSpec, WordCount, LinesWith, Resources, InvertedIndex}
+use Rattle.mr_jobs.specs.JobSpec.{JobSpec, WordCount, LinesWith, Resources, InvertedIndex, NthField}
+use Rattle.mr_jobs.specs.Fields.{field_of}
 use Rattle.mr_jobs.specs.Literal.{holds}
 use Rattle.mr_jobs.specs.Url.{url_of}
 
@@ -32,6 +33,7 @@ emissions (WordCount keep_case) file start line = map (word_emission One keep_ca
 emissions (LinesWith literal fold) file start line = if holds fold line literal then (line, At file start) ∷ [] else []
 emissions Resources file start line = one_for (url_of line)
 emissions (InvertedIndex keep_case) file start line = map (word_emission (At file start) keep_case line) (word_spans line)
+emissions (NthField separator number) file start line = one_for (field_of separator number line)
 
 -- words of a text that was folded before, each with the value
 abbrev pub words_at : Value → List ℕ → List Span → List Emission
@@ -47,6 +49,7 @@ value_at (WordCount keep_case) file start = One
 value_at (LinesWith literal fold) file start = At file start
 value_at Resources file start = One
 value_at (InvertedIndex keep_case) file start = At file start
+value_at (NthField separator number) file start = One
 
 -- what is left of an emitter: one pair with the whole text, or the words from a place on
 abbrev pub still_emitted : List ℕ → ℕ → Value → Bool → List Emission
@@ -61,6 +64,7 @@ IsReady (LinesWith literal fold) line buffer = Unit {0}
 IsReady Resources line buffer = Unit {0}
 IsReady (InvertedIndex true) line buffer = Unit {0}
 IsReady (InvertedIndex false) line buffer = buffer ≡ folded line
+IsReady (NthField separator number) line buffer = Unit {0}
 
 -- an emission by its number, and an empty key past the last
 abbrev pub nth_emission : List Emission → ℕ → Emission

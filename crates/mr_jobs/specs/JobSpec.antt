@@ -1,10 +1,11 @@
 -- What a job does with a record.
-use Rattle.std.specs.Prelude.{◌≡◌, ℕ, ◌+◌, ◌<◌, ◌≤◌, ◌^◌, Bool, true, false, not, if◌then◌else◌, List, [], Contains, length}
+use Rattle.std.specs.Prelude.{◌≡◌, ℕ, ◌+◌, ◌<◌, ◌≤◌, ◌^◌, Bool, true, false, not, if◌then◌else◌, List, [], Contains, Option, length}
 use Rattle.mr_bytes.specs.declared.By.{By}
 use Rattle.mr_bytes.specs.declared.By.TheVariants.{Key, Host}
 use Rattle.mr_jobs.specs.declared.job.GroupText.{GroupText}
 use Rattle.mr_jobs.specs.declared.job.GroupText.TheVariants.{Count, Lines, Files}
 use Rattle.mr_jobs.specs.declared.job.JobRow.{JobRow}
+use Rattle.mr_jobs.specs.Fields.{FieldFits, field_literal}
 
 pub data JobSpec : Type 0 where
   -- count words, by their exact bytes where the flag is true, and else by their folded bytes
@@ -15,6 +16,8 @@ pub data JobSpec : Type 0 where
   Resources : JobSpec
   -- the files in which each word stands, by its exact bytes where the flag is true, and else by its folded bytes
   InvertedIndex : Bool → JobSpec
+  -- count the fields of that number, from 1: between separators of that byte, or without one by gaps of spaces and tabs
+  NthField : Option ℕ → ℕ → JobSpec
 
 -- a job with what of a key chooses its partition, the number of partitions, the split size in bytes and how many records it may
 -- leave out
@@ -32,6 +35,7 @@ row_of (WordCount keep_case) = record { number = 1; flags = if keep_case then 1 
 row_of (LinesWith literal fold) = record { number = 2; flags = if fold then 2 else 0; text = Lines }
 row_of Resources = record { number = 3; flags = 0; text = Count }
 row_of (InvertedIndex keep_case) = record { number = 4; flags = if keep_case then 1 else 0; text = Files }
+row_of (NthField separator number) = record { number = 5; flags = 0; text = Count }
 
 abbrev pub job_number : JobSpec → ℕ
 job_number job = (row_of job).number
@@ -67,6 +71,7 @@ folds_words (WordCount keep_case) = not keep_case
 folds_words (LinesWith literal fold) = false
 folds_words Resources = false
 folds_words (InvertedIndex keep_case) = not keep_case
+folds_words (NthField separator number) = false
 
 -- the job takes the words of a line
 abbrev pub ReadsWords : JobSpec → Type 0
@@ -74,6 +79,7 @@ ReadsWords (WordCount keep_case) = Unit {0}
 ReadsWords (LinesWith literal fold) = ⊥
 ReadsWords Resources = ⊥
 ReadsWords (InvertedIndex keep_case) = Unit {0}
+ReadsWords (NthField separator number) = ⊥
 
 -- the limits of a request
 abbrev pub PartsFit : ℕ → Type 0
@@ -96,12 +102,13 @@ abbrev pub ByFits : JobSpec → By → Type 0
 ByFits job Key = Unit {0}
 ByFits job Host = job ≡ Resources
 
--- its literal
+-- its literal, or what names its field
 abbrev pub job_literal : JobSpec → List ℕ
 job_literal (WordCount keep_case) = []
 job_literal (LinesWith literal fold) = literal
 job_literal Resources = []
 job_literal (InvertedIndex keep_case) = []
+job_literal (NthField separator number) = field_literal separator number
 
 -- a literal has 1 to 4,096 bytes, none of them a line feed
 pub record LiteralFits (literal : List ℕ) : Type 0 where
@@ -109,9 +116,10 @@ pub record LiteralFits (literal : List ℕ) : Type 0 where
   pub short : length literal ≤ 4096
   pub clear : Contains literal 0x0A → ⊥
 
--- a job that looks for a literal has one that fits
+-- a job that looks for a literal has one that fits, and one that counts fields a number and a separator that do
 abbrev pub JobFits : JobSpec → Type 0
 JobFits (WordCount keep_case) = Unit {0}
 JobFits (LinesWith literal fold) = LiteralFits literal
 JobFits Resources = Unit {0}
 JobFits (InvertedIndex keep_case) = Unit {0}
+JobFits (NthField separator number) = FieldFits separator number

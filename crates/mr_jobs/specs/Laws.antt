@@ -1,8 +1,9 @@
 -- What the computed definitions are, in the words of the subject.
-use Rattle.std.specs.Prelude.{◌≡◌, ◌↔◌, ℕ, ◌≤◌, Bool, List, Some, IsTrue, All, length, sum_by}
+use Rattle.std.specs.Prelude.{◌≡◌, ◌↔◌, ℕ, ◌<◌, ◌≤◌, ◌⊎◌, Bool, List, [], None, Some, IsTrue, All, length, sum_by}
 use Rattle.mr_bytes.specs.declared.Value.TheVariants.{One}
-use Rattle.mr_jobs.specs.JobSpec.{JobSpec, JobFits, counts}
+use Rattle.mr_jobs.specs.JobSpec.{JobSpec, JobFits, NthField, counts, job_flags, job_literal, job_number}
 use Rattle.mr_jobs.specs.Emissions.{emissions, value_at}
+use Rattle.mr_jobs.specs.Fields.{IsNthBetween, IsNthStretch, field_of}
 use Rattle.mr_jobs.specs.Literal.{Holds, holds}
 use Rattle.mr_jobs.specs.Url.{IsRequestFor, url_of}
 
@@ -17,9 +18,25 @@ UrlByParts = (line key : List ℕ) → (url_of line ≡ Some key) ↔ IsRequestF
 abbrev pub OneKeyFits : Type 0
 OneKeyFits = (line a b : List ℕ) → IsRequestFor line a → IsRequestFor line b → a ≡ b
 
--- a record has no more emissions than bytes
+-- with a separator, the field is the one stretch of that number between separators
+abbrev pub FieldsAreBetween : Type 0
+FieldsAreBetween = (separator number : ℕ) (line key : List ℕ) → 0 < number → (field_of (Some separator) number line ≡ Some key) ↔ IsNthBetween separator number line key
+
+-- without one, it is the one maximal stretch of that number without spaces and tabs
+abbrev pub FieldsAreStretches : Type 0
+FieldsAreStretches = (number : ℕ) (line key : List ℕ) → 0 < number → (field_of None number line ≡ Some key) ↔ IsNthStretch number line key
+
+-- a job is known by its number, its flags and its literal
+abbrev pub JobsAreNamed : Type 0
+JobsAreNamed = (a b : JobSpec) → JobFits a → JobFits b → job_number a ≡ job_number b → job_flags a ≡ job_flags b → job_literal a ≡ job_literal b → a ≡ b
+
+-- an empty record has one field, if a separator is given, and that is empty
+abbrev pub HasEmptyField : JobSpec → List ℕ → Type 0
+HasEmptyField job line = (line ≡ []) × ((separator : ℕ) × (job ≡ NthField (Some separator) 1))
+
+-- a record has no more emissions than bytes, except for an empty field
 abbrev pub FewEmissions : Type 0
-FewEmissions = (job : JobSpec) (file start : ℕ) (line : List ℕ) → JobFits job → length (emissions job file start line) ≤ length line
+FewEmissions = (job : JobSpec) (file start : ℕ) (line : List ℕ) → JobFits job → (length (emissions job file start line) ≤ length line) ⊎ HasEmptyField job line
 
 -- no key is longer than its record
 abbrev pub ShortKeys : Type 0

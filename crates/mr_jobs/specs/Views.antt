@@ -2,9 +2,9 @@
 use Rattle.std.specs.Prelude.{ℕ, ◌+◌, ◌≤◌, List, map, length, slice_range}
 use Rattle.mr_bytes.specs.declared.Value.{Value}
 use Rattle.mr_jobs.specs.declared.job.Kind.{Kind}
-use Rattle.mr_jobs.specs.declared.job.Kind.TheVariants.{Words, Grep, Url, Index}
+use Rattle.mr_jobs.specs.declared.job.Kind.TheVariants.{Words, Grep, Url, Index, Field}
 use Rattle.mr_jobs.specs.declared.emissions.Entry.{Entry}
-use Rattle.mr_jobs.specs.JobSpec.{JobSpec, WordCount, LinesWith, Resources, InvertedIndex}
+use Rattle.mr_jobs.specs.JobSpec.{JobSpec, WordCount, LinesWith, Resources, InvertedIndex, NthField}
 use Rattle.mr_jobs.specs.Emissions.{Emission}
 
 abbrev pub spec_of : Kind → JobSpec
@@ -12,6 +12,7 @@ spec_of (Words keep_case) = WordCount keep_case
 spec_of (Grep literal fold) = LinesWith literal.items fold
 spec_of Url = Resources
 spec_of (Index keep_case) = InvertedIndex keep_case
+spec_of (Field field) = NthField field.separator field.number
 
 -- the emission that an entry shows, by the bytes of all keys
 abbrev pub emission_at : List ℕ → Entry → Emission

@@ -153,7 +153,7 @@ pub fn map(
     done
 }
 
-/// A record emits no more pairs than it has bytes; its keys, even together, are no longer than it;
+/// A record emits no more pairs than it has bytes, but for an empty field; its keys, even together, are no longer than it;
 /// a job that counts emits only `One`; and all pairs of a record have the value `Job::value_at`.
 pub fn emission_law()
     ensures few { FewEmissions }

@@ -4,6 +4,7 @@
 //!     words, index   the line, or its folded copy     one for each word
 //!     grep           the line                         one if it contains the literal, or none
 //!     url            the line                         one if it requests a resource, or none
+//!     field          the line                         one if it has so many fields, or none
 //!
 //! All pairs of a record have the same value, so an `Emitter` holds a text, a place and a value; and
 //! words of the text that were found before, which come first.
@@ -198,6 +199,10 @@ impl Job {
                 }
             }
             Kind::Url => match url(line) {
+                Some(key) => LinePairs::one_pair(key, value),
+                None => LinePairs::nothing(line),
+            },
+            Kind::Field(field) => match field.find(line) {
                 Some(key) => LinePairs::one_pair(key, value),
                 None => LinePairs::nothing(line),
             },

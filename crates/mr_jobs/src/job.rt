@@ -1,11 +1,15 @@
 //! What a job does with each record.
 ghost use Rattle.std.specs.Prelude.{◌≡◌, ◌↔◌, ℕ, ◌≤◌, ◌<◌, IfOk, IsTrue, OnOk, IsOkUnless, length};
-ghost use Rattle.std.specs.Prelude.{[], Contains};
-ghost use Rattle.mr_jobs.specs.JobSpec.{WordCount, LinesWith, Resources, InvertedIndex, JobFits};
-ghost use Rattle.mr_jobs.specs.JobSpec.{LiteralFits, counts, has_lines, job_number, row_of};
+ghost use Rattle.std.specs.Prelude.{[], ◌⊎◌, Contains};
+ghost use Rattle.std.specs.Option.{IsSomeAnd};
+ghost use Rattle.mr_jobs.specs.JobSpec.{WordCount, LinesWith, Resources, InvertedIndex, NthField};
+ghost use Rattle.mr_jobs.specs.JobSpec.{JobFits, LiteralFits, counts, has_lines, job_number, row_of};
 ghost use Rattle.mr_jobs.specs.JobSpec.{folds_words, job_literal};
 ghost use Rattle.mr_jobs.specs.Emissions.{value_at};
+ghost use Rattle.mr_jobs.specs.Fields.{CannotSeparate, FieldFits, NumberFits};
+ghost use Rattle.mr_jobs.specs.Laws.{JobsAreNamed};
 
+use crate::field::{Field, cannot_separate};
 use mr_bytes::Value;
 use std::alloc::Global;
 use std::marker::Model;
@@ -14,7 +18,10 @@ use thiserror::Error;
 /// The most bytes of a literal.
 pub const MAX_LITERAL: usize = 4096;
 
-const _: () = prove!(MAX_LITERAL == 4096);
+/// The greatest number of a field.
+pub const MAX_FIELD: u32 = 65_535;
+
+const _: () = prove!(MAX_LITERAL == 4096 && MAX_FIELD == 65_535);
 
 /// What an output holds for a key with its values.
 #[derive(Clone, Copy)]
@@ -43,9 +50,10 @@ pub(crate) enum Kind {
     Grep { literal: Vec<u8>, fold: bool },
     Url,
     Index { keep_case: bool },
+    Field(Field),
 }
 
-/// One of the four jobs of this library, from OSDI 2004, sections 2.1 and 2.3.
+/// One of the five jobs of this library, four from OSDI 2004, sections 2.1 and 2.3.
 #[derive(Drop)]
 pub struct Job {
     pub(crate) kind: Kind,
@@ -65,7 +73,8 @@ impl Model for Job {
     ghost invariant = { λ j. JobFits (spec_of j.kind) };
 }
 
-/// Why a literal makes no job: it is empty, has over 4,096 bytes, or contains a line feed.
+/// Why there is no such job: the literal is empty, has over 4,096 bytes, or contains a line feed;
+/// the field's number is not 1 to 65,535, or the separator is a line feed or a digit.
 #[derive(Clone, Copy, Debug, PartialEq, Eq, Drop, Error)]
 pub enum JobFault {
     #[error("EmptyLiteral")]
@@ -74,6 +83,10 @@ pub enum JobFault {
     LongLiteral,
     #[error("LineEndInLiteral")]
     LineEndInLiteral,
+    #[error("BadField")]
+    BadField,
+    #[error("BadSeparator")]
+    BadSeparator,
     #[error("OutOfMemory")]
     OutOfMemory,
 }
@@ -132,6 +145,33 @@ impl Job {
         }
     }
 
+    /// Counts the fields of that number, from 1 to 65,535: those between separators of that byte, or
+    /// without one those between gaps of spaces and tabs. A separator is neither a line feed nor a
+    /// digit. Of several faults it reports the first of `JobFault`.
+    pub fn field(alloc: Global, separator: Option<u8>, number: u32) -> Result<Job, JobFault>
+        ensures ok { IfOk result (λ r. r ≡ NthField separator number) }
+        ensures fits { OnOk result (FieldFits separator number) }
+        ensures bad_field { (result ≡ Err JobFault.BadField) ↔ ((number ≡ 0) ⊎ (65535 < number)) }
+        ensures bad_separator { (result ≡ Err JobFault.BadSeparator)
+            ↔ (NumberFits number × IsSomeAnd separator (λ s. CannotSeparate s)) }
+        ensures good { FieldFits separator number → IsOkUnless result JobFault.OutOfMemory }
+    {
+        if number == 0 || MAX_FIELD < number {
+            return Err(JobFault::BadField);
+        }
+        if let Some(separator) = separator {
+            if cannot_separate(separator) {
+                return Err(JobFault::BadSeparator);
+            }
+        }
+        match Field::new(alloc, separator, number) {
+            Ok(field) => Ok(Job {
+                kind: Kind::Field(field),
+            }),
+            Err(_) => Err(JobFault::OutOfMemory),
+        }
+    }
+
     /// The job's row in the table of jobs.
     #[inline]
     pub fn row(&self) -> JobRow
@@ -143,6 +183,7 @@ impl Job {
             Kind::Grep { literal: _, fold } => (2, if *fold { 2 } else { 0 }, GroupText::Lines),
             Kind::Url => (3, 0, GroupText::Count),
             Kind::Index { keep_case } => (4, if *keep_case { 1 } else { 0 }, GroupText::Files),
+            Kind::Field(_) => (5, 0, GroupText::Count),
         };
         JobRow {
             number,
@@ -177,7 +218,7 @@ impl Job {
         ensures { result ≡ value_at self.now file start }
     {
         match &self.kind {
-            Kind::Words { .. } | Kind::Url => Value::One,
+            Kind::Words { .. } | Kind::Url | Kind::Field(_) => Value::One,
             Kind::Grep { .. } | Kind::Index { .. } => Value::At {
                 file,
                 offset: start as u64,
@@ -190,7 +231,7 @@ impl Job {
     {
         match &self.kind {
             Kind::Words { keep_case } | Kind::Index { keep_case } => !*keep_case,
-            Kind::Grep { .. } | Kind::Url => false,
+            Kind::Grep { .. } | Kind::Url | Kind::Field(_) => false,
         }
     }
 
@@ -200,7 +241,7 @@ impl Job {
         matches!(self.kind, Kind::Url)
     }
 
-    /// The bytes of the literal, at most 4,096; none for a job without one.
+    /// The bytes of the literal, or those that name the field: at most 4,096. Other jobs have none.
     pub fn literal(&self) -> &[u8]
         ensures bytes { result.now ≡ job_literal self.now }
         ensures short { length result.now ≤ 4096 }
@@ -208,7 +249,13 @@ impl Job {
     {
         match &self.kind {
             Kind::Grep { literal, fold: _ } => literal.as_slice(),
+            Kind::Field(field) => field.literal(),
             _ => b"",
         }
     }
 }
+
+/// No two jobs have the same number, flags and literal.
+pub fn job_law()
+    ensures { JobsAreNamed }
+{}

@@ -1,8 +1,9 @@
-//! The four jobs: what each emits for a record, and a request to run one.
+//! The five jobs: what each emits for a record, and a request to run one.
 #![tactic(auto)]
 
 mod emissions;
 mod emitter;
+mod field;
 mod job;
 mod literal;
 mod literal_search;
@@ -14,7 +15,8 @@ mod url;
 
 pub use emissions::{Emissions, RecordStart, emission_law, map};
 pub use emitter::Emitter;
-pub use job::{GroupText, Job, JobFault, JobRow, MAX_LITERAL};
+pub use field::field_law;
+pub use job::{GroupText, Job, JobFault, JobRow, MAX_FIELD, MAX_LITERAL, job_law};
 pub use literal::literal_law;
 pub use mapper::Mapper;
 pub use pairs::LinePairs;

@@ -103,7 +103,7 @@ impl<'j, 'i> Mapper<'j, 'i> {
                 self.piece.ready(file, text, from, from + line.len())?;
                 return Ok(self.piece.emit(job.value_at(file, start)));
             }
-            Kind::Url => return Ok(job.pairs(file, start, line, line)),
+            Kind::Url | Kind::Field(_) => return Ok(job.pairs(file, start, line, line)),
             Kind::Grep { literal, fold } => (literal.as_slice(), *fold),
         };
         if self.file != file {

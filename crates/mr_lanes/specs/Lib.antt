@@ -5,4 +5,5 @@ pub mod Difference
 pub mod Find
 pub mod Search
 pub mod Hashes
+pub mod Blanks
 pub mod Laws

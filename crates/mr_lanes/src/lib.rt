@@ -1,4 +1,4 @@
-//! Kernels over bytes: line ends, words, folding, caseless search, comparison and hashes.
+//! Kernels over bytes: line ends, words, blanks, folding, caseless search, comparison and hashes.
 //!
 //! They read blocks of 64 bytes. A word of 64 bits describes a block, bit i for byte i (`planes`),
 //! and loops visit only set bits, the lowest first. The bytes after the last whole block are
@@ -7,6 +7,7 @@
 //! kernel reads outside of its arguments. Each returns what its plain definition says.
 #![tactic(auto)]
 
+mod blanks;
 mod blocks;
 mod classes;
 mod difference;
@@ -16,6 +17,7 @@ mod lines;
 mod search;
 mod words;
 
+pub use blanks::leading_blanks;
 pub use blocks::planes;
 pub use classes::Planes;
 pub use difference::{difference_law, first_difference};
