@@ -1,20 +1,22 @@
 -- How many emissions a record has, and how long their keys are.
-use Rattle.std.proofs.Common.{◌≡◌, ℕ, ◌+◌, ◌-◌, ◌<◌, ◌≤◌, ◌∙◌, map, sum_by, Bool, true, false, cond, eqb, List, [], ◌∷◌, ◌++◌, All, length, get_or, drop, refl, sym, ap, subst, arith, length-append, Option, None, Some}
+use Rattle.std.proofs.Common.{◌≡◌, ℕ, ◌+◌, ◌-◌, ◌<◌, ◌≤◌, ◌⊎◌, inl, inr, ◌∙◌, map, sum_by, Bool, true, false, cond, eqb, List, [], ◌∷◌, ◌++◌, All, length, get_or, drop, refl, sym, ap, subst, arith, length-append, Option, None, Some}
 use Rattle.std.proofs.lemmas.List.{length-map, length-take, length-drop}
 use Rattle.std.proofs.lemmas.List.Elements.{All-nil, All-cons, All-map}
 use Rattle.mr_bytes.specs.Bytes.{is_word_byte, fold_byte}
 use Rattle.mr_bytes.specs.Words.{extend, word_spans, word_spans_from, span_bytes}
 use Rattle.mr_bytes.specs.declared.Span.{Span}
-use Rattle.std.proofs.lemmas.Bool.{eqb-true, false≢true}
+use Rattle.std.proofs.lemmas.Bool.{cases_lt, eqb-true, false≢true}
 use Rattle.std.proofs.lemmas.List.Sums.{sum_by-cons}
 use Rattle.mr_bytes.specs.declared.Value.{Value}
 use Rattle.mr_bytes.specs.declared.Value.TheVariants.{One, At}
 use Rattle.mr_bytes.proofs.WordLemmas.{word_spans_from-cons, word_spans_from-nil}
 use Rattle.mr_jobs.specs.Emissions.{Emission, emissions, one_for, value_at, word_key, word_emission}
-use Rattle.mr_jobs.specs.Laws.{FewEmissions, ShortKeys, KeysFitTheRecord, CountersEmitOnes, OneValueEach}
+use Rattle.mr_jobs.specs.Fields.{FieldFits, field_of}
+use Rattle.mr_jobs.specs.Laws.{HasEmptyField, FewEmissions, ShortKeys, KeysFitTheRecord, CountersEmitOnes, OneValueEach}
 use Rattle.mr_jobs.specs.Literal.{holds, begins_with}
-use Rattle.mr_jobs.specs.JobSpec.{JobSpec, WordCount, LinesWith, Resources, InvertedIndex}
+use Rattle.mr_jobs.specs.JobSpec.{JobSpec, WordCount, LinesWith, Resources, InvertedIndex, NthField}
 use Rattle.mr_jobs.specs.Url.{IsRequestFor, url_of, piece_bytes}
+use Rattle.mr_jobs.proofs.FieldLemmas.{between-nil, short_field, some_stretch}
 use Rattle.mr_jobs.proofs.UrlLemmas.{parts_of-url}
 
 length-extend : (at : ℕ) (ws : List Span) → length (extend at ws) ≤ length ws + 1
@@ -55,6 +57,7 @@ few_emissions (LinesWith literal fold) file start line =
 few_emissions Resources file start line = omega (arith, few_one (url_of line))
 few_emissions (InvertedIndex keep_case) file start line =
     omega (arith, few_words 0 line, length-map (word_spans line) (word_emission (At file start) keep_case line))
+few_emissions (NthField separator number) file start line = omega (arith, few_one (field_of separator number line))
 
 holds-none : (fold : Bool) (x : ℕ) (xs : List ℕ) → holds fold [] (x ∷ xs) ≡ false
 unfolding holds begins_with
@@ -89,15 +92,35 @@ one_of_some line (Some key) e =
     let short = short_request line key fits in
     omega (arith, short, fits.some_key)
 
+one_stretch : (number : ℕ) (line : List ℕ) (key : Option (List ℕ)) → field_of None number line ≡ key → length (one_for key) ≤ length line
+one_stretch number line None e = omega arith
+one_stretch number line (Some key) e = omega (arith, short_field None number line key e, some_stretch number line key e)
+
+-- a line that isn't empty has a byte for its field, and an empty one at most one field
+one_between : (s number : ℕ) (line : List ℕ) → FieldFits (Some s) number
+    → (length (one_for (field_of (Some s) number line)) ≤ length line) ⊎ HasEmptyField (NthField (Some s) number) line
+one_between s number (b ∷ bs) fits = inl (omega (arith, few_one (field_of (Some s) number (b ∷ bs))))
+one_between s number [] fits =
+    elim (cases_lt 1 number) [
+      | inl more ↦
+          let none : length (one_for (field_of (Some s) number [])) ≡ 0 = ap (λ key. length (one_for key)) (between-nil s (number - 1) (omega (arith, more))) in
+          inl (omega (arith, none))
+      | inr le ↦
+          let one : number ≡ 1 = omega (arith, le, fits.number_fits.0) in
+          inr (refl, (s, ap (NthField (Some s)) one))
+    ]
+
 pub emissions_fit : FewEmissions
 emissions_fit (WordCount keep_case) file start line fits =
-    omega (arith, few_words 0 line, length-map (word_spans line) (word_emission One keep_case line))
+    inl (omega (arith, few_words 0 line, length-map (word_spans line) (word_emission One keep_case line)))
 emissions_fit (LinesWith literal fold) file start line fits =
     let one : Emission = (line, At file start) in
-    one_in_some (holds fold line literal) one line (holding_some fold line literal fits.some)
-emissions_fit Resources file start line fits = one_of_some line (url_of line) refl
+    inl (one_in_some (holds fold line literal) one line (holding_some fold line literal fits.some))
+emissions_fit Resources file start line fits = inl (one_of_some line (url_of line) refl)
 emissions_fit (InvertedIndex keep_case) file start line fits =
-    omega (arith, few_words 0 line, length-map (word_spans line) (word_emission (At file start) keep_case line))
+    inl (omega (arith, few_words 0 line, length-map (word_spans line) (word_emission (At file start) keep_case line)))
+emissions_fit (NthField None number) file start line fits = inl (one_stretch number line (field_of None number line) refl)
+emissions_fit (NthField (Some s) number) file start line fits = one_between s number line fits
 
 -- keys
 abbrev Short : List ℕ → Emission → Type 0
@@ -108,9 +131,12 @@ short_word true line w = omega (arith, length-take (w.end - w.start) (drop w.sta
 short_word false line w =
     omega (arith, length-map (span_bytes line w) fold_byte, length-take (w.end - w.start) (drop w.start line), length-drop w.start line)
 
-short_one : (line : List ℕ) (key : Option (List ℕ)) → url_of line ≡ key → All (Short line) (one_for key)
-short_one line None e = All-nil (Short line)
-short_one line (Some key) e = All-cons (Short line) (key, One) [] (short_request line key (parts_of-url line key e)) (All-nil (Short line))
+short_one : (line : List ℕ) (found : Option (List ℕ)) → ((key : List ℕ) → found ≡ Some key → length key ≤ length line) → All (Short line) (one_for found)
+short_one line None short = All-nil (Short line)
+short_one line (Some key) short = All-cons (Short line) (key, One) [] (short key refl) (All-nil (Short line))
+
+short_url : (line key : List ℕ) → url_of line ≡ Some key → length key ≤ length line
+short_url line key e = short_request line key (parts_of-url line key e)
 
 short_if : (t : Bool) (one : Emission) (line : List ℕ) → Short line one → All (Short line) (cond t (one ∷ []) [])
 short_if true one line h = All-cons (Short line) one [] h (All-nil (Short line))
@@ -122,9 +148,10 @@ short_keys (WordCount keep_case) file start line =
 short_keys (LinesWith literal fold) file start line =
     let one : Emission = (line, At file start) in
     short_if (holds fold line literal) one line (let same : length line ≤ length line = omega arith in same)
-short_keys Resources file start line = short_one line (url_of line) refl
+short_keys Resources file start line = short_one line (url_of line) (short_url line)
 short_keys (InvertedIndex keep_case) file start line =
     All-map (Short line) (word_emission (At file start) keep_case line) (word_spans line) (λ k d less. short_word keep_case line (get_or (word_spans line) k d))
+short_keys (NthField separator number) file start line = short_one line (field_of separator number line) (short_field separator number line)
 
 -- keys, together
 abbrev span_sizes : List Span → ℕ
@@ -176,15 +203,17 @@ size_if : (t : Bool) (value : Value) (line : List ℕ) → sum_by (λ (e : Emiss
 size_if true value line = omega (arith, size_of_one (line, value))
 size_if false value line = omega arith
 
-size_of_key : (line : List ℕ) (key : Option (List ℕ)) → url_of line ≡ key → sum_by (λ (e : Emission). length e.0) (one_for key) ≤ length line
-size_of_key line None e = omega arith
-size_of_key line (Some key) e = omega (arith, size_of_one (key, One), short_request line key (parts_of-url line key e))
+size_of_key : (line : List ℕ) (found : Option (List ℕ)) → ((key : List ℕ) → found ≡ Some key → length key ≤ length line)
+    → sum_by (λ (e : Emission). length e.0) (one_for found) ≤ length line
+size_of_key line None short = omega arith
+size_of_key line (Some key) short = omega (arith, size_of_one (key, One), short key refl)
 
 pub keys_fit : KeysFitTheRecord
 keys_fit (WordCount keep_case) file start line = omega (arith, sizes-keys One keep_case line (word_spans line), sizes-words 0 line)
 keys_fit (LinesWith literal fold) file start line = size_if (holds fold line literal) (At file start) line
-keys_fit Resources file start line = size_of_key line (url_of line) refl
+keys_fit Resources file start line = size_of_key line (url_of line) (short_url line)
 keys_fit (InvertedIndex keep_case) file start line = omega (arith, sizes-keys (At file start) keep_case line (word_spans line), sizes-words 0 line)
+keys_fit (NthField separator number) file start line = size_of_key line (field_of separator number line) (short_field separator number line)
 
 -- values
 abbrev IsOne : Emission → Type 0
@@ -199,14 +228,11 @@ counters_emit_ones (WordCount keep_case) file start line is = All-map IsOne (wor
 counters_emit_ones (LinesWith literal fold) file start line is = absurd (let no : false ≡ true = is in cc)
 counters_emit_ones Resources file start line is = ones_one (url_of line)
 counters_emit_ones (InvertedIndex keep_case) file start line is = absurd (let no : false ≡ true = is in cc)
+counters_emit_ones (NthField separator number) file start line is = ones_one (field_of separator number line)
 
 -- values
 abbrev Has : JobSpec → ℕ → ℕ → Emission → Type 0
 Has job file start e = e.1 ≡ value_at job file start
-
-has_one : (file start : ℕ) (key : Option (List ℕ)) → All (Has Resources file start) (one_for key)
-has_one file start None = All-nil (Has Resources file start)
-has_one file start (Some key) = All-cons (Has Resources file start) (key, One) [] refl (All-nil (Has Resources file start))
 
 has_if : (job : JobSpec) (file start : ℕ) (t : Bool) (one : Emission) → Has job file start one → All (Has job file start) (cond t (one ∷ []) [])
 has_if job file start true one h = All-cons (Has job file start) one [] h (All-nil (Has job file start))
@@ -218,6 +244,7 @@ one_value_each (WordCount keep_case) file start line =
 one_value_each (LinesWith literal fold) file start line =
     let one : Emission = (line, At file start) in
     has_if (LinesWith literal fold) file start (holds fold line literal) one refl
-one_value_each Resources file start line = has_one file start (url_of line)
+one_value_each Resources file start line = ones_one (url_of line)
 one_value_each (InvertedIndex keep_case) file start line =
     All-map (Has (InvertedIndex keep_case) file start) (word_emission (At file start) keep_case line) (word_spans line) (λ k d less. refl)
+one_value_each (NthField separator number) file start line = ones_one (field_of separator number line)

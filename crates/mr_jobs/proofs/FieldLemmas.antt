@@ -1,9 +1,9 @@
 -- The field of a number, by separators and by gaps.
-use Rattle.std.proofs.Common.{◌≡◌, ◌≢◌, ℕ, zero, suc, ◌+◌, ◌-◌, ◌<◌, ◌≤◌, Bool, true, false, not, cond, eqb, List, [], ◌∷◌, ◌++◌, Option, None, Some, length, take, drop, get_or, refl, sym, ◌∙◌, ap, subst, arith, inl, inr, length-append, append_assoc}
+use Rattle.std.proofs.Common.{◌≡◌, ℕ, zero, suc, ◌+◌, ◌-◌, ◌<◌, ◌≤◌, Bool, true, false, not, cond, eqb, List, [], ◌∷◌, ◌++◌, Option, None, Some, length, take, drop, get_or, refl, sym, ◌∙◌, ap, subst, arith, inl, inr, length-append, append_assoc}
 use Rattle.std.specs.List.{AllByRecursion, prefix_len}
 use Rattle.std.specs.Prelude.{option_and_then}
 use Rattle.std.proofs.lemmas.Bool.{cases_Bool, true≢false, eqb-true, eq-eqb}
-use Rattle.std.proofs.lemmas.List.{take-append-drop}
+use Rattle.std.proofs.lemmas.List.{take-append-drop, length-drop}
 use Rattle.std.proofs.lemmas.List.Folds.{length-prefix_len}
 use Rattle.std.proofs.lemmas.List.Sums.{prefix_len_is}
 use Rattle.std.proofs.Math.Seq.{drop-append_seam, take-append_seam}
@@ -11,7 +11,7 @@ use Rattle.memchr.specs.Find.{NoneBefore, Nowhere, Passes, is_byte2}
 use Rattle.mr_bytes.specs.Cut.{Lacks}
 use Rattle.mr_lanes.specs.Blanks.{is_blank}
 use Rattle.mr_jobs.specs.Url.{after_byte, before_byte, some_bytes}
-use Rattle.mr_jobs.specs.Fields.{AreBlanks, EndsOr, Gapped, IsGapped, IsNthBetween, IsNthStretch, LacksBlanks, behind_blanks, behind_stretch, field_behind, field_of, gapped_bytes, is_no_blank, separated, stretch_behind, stretch_of}
+use Rattle.mr_jobs.specs.Fields.{EndsOr, Gapped, IsGapped, LacksBlanks, behind_blanks, behind_stretch, field_behind, field_of, gapped_bytes, is_no_blank, separated, stretch_behind, stretch_of}
 use Rattle.mr_jobs.specs.Laws.{FieldsAreBetween, FieldsAreStretches}
 use Rattle.mr_jobs.proofs.UrlLemmas.{Chained, Follows, StartsWith, after-cut, after-lacks, after-split, before-all, before-cut, before-lacks, chained, follows, some-bytes, some_bytes-is}
 
@@ -336,6 +336,25 @@ fields_stretches number line key some = (
       ap (λ k. stretch_behind k (behind_blanks line)) n ∙ ap (stretch_behind (length p.before)) behind
       ∙ stretch-of_parts p.before key p.rest p.stretches p.some_field p.field_is p.ends,
 )
+
+-- ---- no field is longer than its line
+
+pub short_field : (separator : Option ℕ) (number : ℕ) (line key : List ℕ) → field_of separator number line ≡ Some key → length key ≤ length line
+short_field (Some s) number line key h =
+    let p : Between s (number - 1) line key = parts-of_field s (number - 1) line key h in
+    omega (arith, ap length p.line_is, length-append (separated s p.before) (key ++ p.rest), length-append key p.rest)
+short_field None number line key h =
+    let rest : List ℕ = behind_blanks line in
+    let p : Behind (number - 1) rest key = parts-of_stretch (number - 1) rest key (run-ends is_blank line) h in
+    omega (arith, ap length p.line_is, length-append (gapped_bytes p.before) (key ++ p.rest), length-append key p.rest, length-drop (prefix_len is_blank line) line)
+
+-- no field is empty that a gap ends
+pub some_stretch : (number : ℕ) (line key : List ℕ) → field_of None number line ≡ Some key → 0 < length key
+some_stretch number line key h = (parts-of_stretch (number - 1) (behind_blanks line) key (run-ends is_blank line) h).some_field
+
+-- an empty line has one field, if a separator is given
+pub between-nil : (s n : ℕ) → 0 < n → field_behind s n [] ≡ None
+between-nil s n more = between-none s n [] more (after-lacks s [] tt)
 
 -- ---- a search for the first space or tab
 

@@ -2,6 +2,7 @@ pub mod LiteralLemmas
 pub mod HitLemmas
 pub mod UrlLemmas
 pub mod FieldLemmas
+pub mod NameLemmas
 pub mod EmitLemmas
 pub mod EntryLemmas
 pub mod CountLemmas

@@ -11,7 +11,7 @@ use Rattle.mr_bytes.specs.declared.Span.{Span}
 use Rattle.mr_bytes.specs.declared.Value.{Value}
 use Rattle.mr_bytes.specs.declared.Value.TheVariants.{One, At}
 use Rattle.mr_jobs.specs.Emissions.{emissions, words_at, words_from, value_at}
-use Rattle.mr_jobs.specs.JobSpec.{JobSpec, WordCount, LinesWith, Resources, InvertedIndex, ReadsWords, folds_words}
+use Rattle.mr_jobs.specs.JobSpec.{JobSpec, WordCount, LinesWith, Resources, InvertedIndex, NthField, ReadsWords, folds_words}
 use Rattle.mr_jobs.specs.Pieces.{IsCut, IsOf, IsSeam, read_as, start_at}
 use Rattle.mr_jobs.proofs.EmitLemmas.{words_from-folded, word_byte-folded}
 use Rattle.mr_jobs.proofs.SeamLemmas.{AreApart, IsInside, words-apart, apart-at, words-inside, words-within, words-shift, shifted}
@@ -218,3 +218,4 @@ reads-emitted (LinesWith literal fold) file start line is = absurd is
 reads-emitted Resources file start line is = absurd is
 reads-emitted (InvertedIndex true) file start line is = refl
 reads-emitted (InvertedIndex false) file start line is = words_from-folded (At file start) line
+reads-emitted (NthField separator number) file start line is = absurd is

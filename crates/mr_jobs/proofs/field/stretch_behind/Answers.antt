@@ -1,4 +1,4 @@
-use Rattle.std.proofs.Common.{◌≡◌, ap, ◌∙◌, sym, ℕ, List, Some, None, take, drop, ◌-◌, arith}
+use Rattle.std.proofs.Common.{◌≡◌, ap, ◌∙◌, sym, ℕ, List, take, drop, ◌-◌, arith}
 use Rattle.std.proofs.lemmas.List.{take_rest}
 use Rattle.mr_jobs.specs.Fields.{behind_blanks, stretch_behind, stretch_of}
 use Rattle.mr_jobs.specs.Url.{some_bytes}

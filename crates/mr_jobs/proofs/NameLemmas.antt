@@ -1,0 +1,63 @@
+-- A job is known by its number, its flags and its literal.
+use Rattle.std.proofs.Common.{◌≡◌, ℕ, true, false, ◌∷◌, Option, None, Some, get_or, drop, refl, sym, ap, ◌∙◌, arith, inr}
+use Rattle.std.specs.Prelude.{decimal}
+use Rattle.std.proofs.lemmas.Fmt.{decimal_injective, decimal_is_IsNumeral}
+use Rattle.std.proofs.lemmas.Str.Parse.{digit_at}
+use Rattle.mr_jobs.specs.Fields.{FieldFits, field_literal}
+use Rattle.mr_jobs.specs.JobSpec.{WordCount, LinesWith, Resources, InvertedIndex, NthField}
+use Rattle.mr_jobs.specs.Laws.{JobsAreNamed}
+
+-- no separator is a digit, with which the number begins
+no_digit : (s n m : ℕ) → FieldFits (Some s) m → FieldFits None n → decimal n ≡ s ∷ decimal m → ⊥
+no_digit s n m f g e =
+    let numeral = (decimal_is_IsNumeral n (omega (arith, g.number_fits.1))).0 in
+    let digit = digit_at (decimal n) 0 numeral.1 numeral.0 in
+    let first : get_or (decimal n) 0 0 ≡ s = ap (λ l. get_or l 0 0) e in
+    f.separates s refl (inr (omega (arith, digit.0, first), omega (arith, digit.1, first)))
+
+same_number : (n m : ℕ) (a b : Option ℕ) → FieldFits a n → FieldFits b m → decimal n ≡ decimal m → n ≡ m
+same_number n m a b f g e = decimal_injective n m (omega (arith, f.number_fits.1)) (omega (arith, g.number_fits.1)) e
+
+pub same_field : (a b : Option ℕ) (n m : ℕ) → FieldFits a n → FieldFits b m → field_literal a n ≡ field_literal b m → NthField a n ≡ NthField b m
+same_field None None n m f g e = ap (NthField None) (same_number n m None None f g e)
+same_field None (Some s) n m f g e = absurd (no_digit s n m g f e)
+same_field (Some s) None n m f g e = absurd (no_digit s m n f g (sym e))
+same_field (Some s) (Some t) n m f g e =
+    let same : s ≡ t = ap (λ l. get_or l 0 0) e in
+    ap (λ x. NthField (Some x) n) same ∙ ap (NthField (Some t)) (same_number n m (Some s) (Some t) f g (ap (drop 1) e))
+
+pub jobs_named : JobsAreNamed
+jobs_named (WordCount true) (WordCount true) fa fb n f l = refl
+jobs_named (WordCount true) (WordCount false) fa fb n f l = absurd (omega (arith, f))
+jobs_named (WordCount false) (WordCount true) fa fb n f l = absurd (omega (arith, f))
+jobs_named (WordCount false) (WordCount false) fa fb n f l = refl
+jobs_named (WordCount k) (LinesWith literal fold) fa fb n f l = absurd (omega (arith, n))
+jobs_named (WordCount k) Resources fa fb n f l = absurd (omega (arith, n))
+jobs_named (WordCount k) (InvertedIndex j) fa fb n f l = absurd (omega (arith, n))
+jobs_named (WordCount k) (NthField separator number) fa fb n f l = absurd (omega (arith, n))
+jobs_named (LinesWith literal fold) (WordCount k) fa fb n f l = absurd (omega (arith, n))
+jobs_named (LinesWith literal true) (LinesWith other true) fa fb n f l = ap (λ x. LinesWith x true) l
+jobs_named (LinesWith literal true) (LinesWith other false) fa fb n f l = absurd (omega (arith, f))
+jobs_named (LinesWith literal false) (LinesWith other true) fa fb n f l = absurd (omega (arith, f))
+jobs_named (LinesWith literal false) (LinesWith other false) fa fb n f l = ap (λ x. LinesWith x false) l
+jobs_named (LinesWith literal fold) Resources fa fb n f l = absurd (omega (arith, n))
+jobs_named (LinesWith literal fold) (InvertedIndex k) fa fb n f l = absurd (omega (arith, n))
+jobs_named (LinesWith literal fold) (NthField separator number) fa fb n f l = absurd (omega (arith, n))
+jobs_named Resources (WordCount k) fa fb n f l = absurd (omega (arith, n))
+jobs_named Resources (LinesWith literal fold) fa fb n f l = absurd (omega (arith, n))
+jobs_named Resources Resources fa fb n f l = refl
+jobs_named Resources (InvertedIndex k) fa fb n f l = absurd (omega (arith, n))
+jobs_named Resources (NthField separator number) fa fb n f l = absurd (omega (arith, n))
+jobs_named (InvertedIndex k) (WordCount j) fa fb n f l = absurd (omega (arith, n))
+jobs_named (InvertedIndex k) (LinesWith literal fold) fa fb n f l = absurd (omega (arith, n))
+jobs_named (InvertedIndex k) Resources fa fb n f l = absurd (omega (arith, n))
+jobs_named (InvertedIndex true) (InvertedIndex true) fa fb n f l = refl
+jobs_named (InvertedIndex true) (InvertedIndex false) fa fb n f l = absurd (omega (arith, f))
+jobs_named (InvertedIndex false) (InvertedIndex true) fa fb n f l = absurd (omega (arith, f))
+jobs_named (InvertedIndex false) (InvertedIndex false) fa fb n f l = refl
+jobs_named (InvertedIndex k) (NthField separator number) fa fb n f l = absurd (omega (arith, n))
+jobs_named (NthField separator number) (WordCount k) fa fb n f l = absurd (omega (arith, n))
+jobs_named (NthField separator number) (LinesWith literal fold) fa fb n f l = absurd (omega (arith, n))
+jobs_named (NthField separator number) Resources fa fb n f l = absurd (omega (arith, n))
+jobs_named (NthField separator number) (InvertedIndex k) fa fb n f l = absurd (omega (arith, n))
+jobs_named (NthField s number) (NthField t other) fa fb n f l = same_field s t number other fa fb l
