@@ -10,7 +10,7 @@ use Rattle.mr_bytes.specs.declared.Value.TheVariants.{One}
 use Rattle.mr_bytes.specs.Lists.{Has}
 use Rattle.mr_bytes.specs.Pairs.{Triple}
 use Rattle.mr_bytes.proofs.ListLaws.{Has-all, all_from_Has}
-use Rattle.mr_jobs.specs.JobSpec.{JobSpec, WordCount, LinesWith, Resources, InvertedIndex, counts}
+use Rattle.mr_jobs.specs.JobSpec.{JobSpec, WordCount, LinesWith, Resources, InvertedIndex, NthField, counts}
 use Rattle.mr_jobs.specs.Emissions.{value_at}
 use Rattle.mr_certform.specs.declared.grammar_state.Item.{Item}
 use Rattle.mr_certform.specs.declared.grammar_state.Item.TheVariants.{Entries, Entry, End}
@@ -110,6 +110,7 @@ pub counts_one : (job : JobSpec) (file at : ℕ) → counts job ≡ true → val
 counts_one (WordCount keep_case) file at h = refl
 counts_one (LinesWith literal fold) file at h = absurd (false≢true h)
 counts_one Resources file at h = refl
+counts_one (NthField separator number) file at h = refl
 counts_one (InvertedIndex keep_case) file at h = absurd (false≢true h)
 
 -- ---- all items

@@ -10,11 +10,13 @@ use Rattle.mr_bytes.specs.Words.{span_bytes, word_spans}
 use Rattle.mr_bytes.specs.declared.Span.{Span}
 use Rattle.mr_bytes.specs.declared.Value.{Value}
 use Rattle.mr_bytes.specs.declared.Value.TheVariants.{One, At}
-use Rattle.mr_jobs.specs.JobSpec.{JobSpec, WordCount, LinesWith, Resources, InvertedIndex, folds_words}
+use Rattle.mr_jobs.specs.JobSpec.{JobSpec, WordCount, LinesWith, Resources, InvertedIndex, NthField, folds_words}
 use Rattle.mr_jobs.specs.Emissions.{Emission, emissions, one_for, word_emission, word_key}
 use Rattle.mr_jobs.specs.Literal.{Holds, compared, holds}
 use Rattle.mr_jobs.specs.Url.{IsRequestFor, url_of}
 use Rattle.mr_jobs.proofs.LiteralLemmas.{place_found}
+use Rattle.mr_jobs.specs.Fields.{field_of}
+use Rattle.mr_jobs.proofs.FieldLemmas.{field_inside}
 use Rattle.mr_jobs.proofs.UrlLemmas.{parts_of-url}
 use Rattle.mr_sequential.proofs.KeyLaws.{bytes_eq-is}
 use Rattle.mr_explain.specs.Explained.{has_key, pairs_with}
@@ -121,6 +123,12 @@ stands_url : (line : List ℕ) (found : Option (List ℕ)) → url_of line ≡ f
 stands_url line None e = All-nil (Stands false line)
 stands_url line (Some key) e = All-cons (Stands false line) (key, One) [] (stands_request line key (parts_of-url line key e)) (All-nil (Stands false line))
 
+stands_field : (separator : Option ℕ) (number : ℕ) (line : List ℕ) (found : Option (List ℕ)) → field_of separator number line ≡ found → All (Stands false line) (one_for found)
+stands_field separator number line None e = All-nil (Stands false line)
+stands_field separator number line (Some key) e =
+    let p = field_inside separator number line key e in
+    All-cons (Stands false line) (key, One) [] (stands_between line p.front key p.back p.line_is) (All-nil (Stands false line))
+
 stands_line : (t : Bool) (line : List ℕ) (value : Value) → All (Stands false line) (cond t ((line, value) ∷ []) [])
 stands_line true line value = All-cons (Stands false line) (line, value) [] (stands_first line) (All-nil (Stands false line))
 stands_line false line value = All-nil (Stands false line)
@@ -129,6 +137,7 @@ pub keys_stand : (job : JobSpec) (file start : ℕ) (line : List ℕ) → All (S
 keys_stand (WordCount keep_case) file start line = stands_words One keep_case line (word_spans line)
 keys_stand (LinesWith literal fold) file start line = stands_line (holds fold line literal) line (At file start)
 keys_stand Resources file start line = stands_url line (url_of line) refl
+keys_stand (NthField separator number) file start line = stands_field separator number line (field_of separator number line) refl
 keys_stand (InvertedIndex keep_case) file start line = stands_words (At file start) keep_case line (word_spans line)
 
 -- ---- so a line without the front of a key doesn't give the key

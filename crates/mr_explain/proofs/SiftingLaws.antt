@@ -15,7 +15,7 @@ use Rattle.mr_bytes.specs.declared.Value.TheVariants.{At}
 use Rattle.mr_bytes.specs.Words.{word_spans}
 use Rattle.mr_bytes.specs.declared.Span.{Span}
 use Rattle.mr_input.specs.Files.{nth_file, split_count, total_size}
-use Rattle.mr_jobs.specs.JobSpec.{JobSpec, WordCount, LinesWith, Resources, InvertedIndex}
+use Rattle.mr_jobs.specs.JobSpec.{JobSpec, WordCount, LinesWith, Resources, InvertedIndex, NthField}
 use Rattle.mr_jobs.specs.Emissions.{Emission, emissions, word_emission}
 use Rattle.mr_jobs.specs.Literal.{holds}
 use Rattle.mr_records.specs.Records.{Record, records}
@@ -69,6 +69,7 @@ keys_anywhere : (job : JobSpec) (file start : ℕ) (line : List ℕ) → keys_in
 keys_anywhere (WordCount keep_case) file start line = refl
 keys_anywhere (LinesWith literal fold) file start line = keys_of_line (holds fold line literal) (At file start) (At 0 0) line
 keys_anywhere Resources file start line = refl
+keys_anywhere (NthField separator number) file start line = refl
 keys_anywhere (InvertedIndex keep_case) file start line = keys_at (At file start) (At 0 0) keep_case line (word_spans line)
 
 -- how many of these keys are the key

@@ -337,16 +337,30 @@ fields_stretches number line key some = (
       ∙ stretch-of_parts p.before key p.rest p.stretches p.some_field p.field_is p.ends,
 )
 
--- ---- no field is longer than its line
+-- ---- a field is a part of its line
+
+pub record Inside (line key : List ℕ) : Type 0 where
+  pub front : List ℕ
+  pub back : List ℕ
+  pub line_is : line ≡ front ++ (key ++ back)
+
+pub field_inside : (separator : Option ℕ) (number : ℕ) (line key : List ℕ) → field_of separator number line ≡ Some key → Inside line key
+field_inside (Some s) number line key h =
+    let p : Between s (number - 1) line key = parts-of_field s (number - 1) line key h in
+    record { front = separated s p.before; back = p.rest; line_is = p.line_is }
+field_inside None number line key h =
+    let lead : List ℕ = take (prefix_len is_blank line) line in
+    let p : Behind (number - 1) (behind_blanks line) key = parts-of_stretch (number - 1) (behind_blanks line) key (run-ends is_blank line) h in
+    record {
+      front = lead ++ gapped_bytes p.before;
+      back = p.rest;
+      line_is = parted is_blank line ∙ ap (λ l. lead ++ l) p.line_is ∙ sym (append_assoc lead (gapped_bytes p.before) (key ++ p.rest));
+    }
 
 pub short_field : (separator : Option ℕ) (number : ℕ) (line key : List ℕ) → field_of separator number line ≡ Some key → length key ≤ length line
-short_field (Some s) number line key h =
-    let p : Between s (number - 1) line key = parts-of_field s (number - 1) line key h in
-    omega (arith, ap length p.line_is, length-append (separated s p.before) (key ++ p.rest), length-append key p.rest)
-short_field None number line key h =
-    let rest : List ℕ = behind_blanks line in
-    let p : Behind (number - 1) rest key = parts-of_stretch (number - 1) rest key (run-ends is_blank line) h in
-    omega (arith, ap length p.line_is, length-append (gapped_bytes p.before) (key ++ p.rest), length-append key p.rest, length-drop (prefix_len is_blank line) line)
+short_field separator number line key h =
+    let p : Inside line key = field_inside separator number line key h in
+    omega (arith, ap length p.line_is, length-append p.front (key ++ p.back), length-append key p.back)
 
 -- no field is empty that a gap ends
 pub some_stretch : (number : ℕ) (line key : List ℕ) → field_of None number line ≡ Some key → 0 < length key

@@ -8,7 +8,7 @@ use Rattle.std.specs.Prelude.{Err, decimal, nat_eq, Some as Just}
 use Rattle.std.specs.List.{common_prefix_len, flat_map}
 use Rattle.mr_bytes.specs.declared.Value.{Value}
 use Rattle.mr_bytes.specs.declared.Value.TheVariants.{One}
-use Rattle.mr_jobs.specs.JobSpec.{JobSpec, WordCount, LinesWith, Resources, InvertedIndex, counts, has_lines}
+use Rattle.mr_jobs.specs.JobSpec.{JobSpec, WordCount, LinesWith, Resources, InvertedIndex, NthField, counts, has_lines}
 use Rattle.mr_reduce.specs.Text.{place_line, text_of, total_line}
 use Rattle.mr_verdict.specs.declared.answers.No.{No}
 use Rattle.mr_verdict.specs.declared.answers.No.TheVariants.{OutputDiffers}
@@ -39,6 +39,7 @@ lines_all (LinesWith literal fold) key vs i v e h is =
     flat_all (place_line key) vs i One h
     ∙ ap (λ w. flat_map (place_line key) (take i vs) ++ (flat_map (place_line key) (w ∷ []) ++ flat_map (place_line key) (drop (i + 1) vs))) (sym is)
 lines_all Resources key vs i v e h is = absurd (let no : false ≡ true = e in cc)
+lines_all (NthField separator number) key vs i v e h is = absurd (let no : false ≡ true = e in cc)
 lines_all (InvertedIndex keep_case) key vs i v e h is = absurd (let no : false ≡ true = e in cc)
 
 -- ---- where texts part
@@ -112,6 +113,7 @@ pub counted_once : (job : JobSpec) (key : List ℕ) (vs : List Value) → counts
 counted_once (WordCount keep_case) key vs e one = ap (total_line key) one
 counted_once (LinesWith literal fold) key vs e one = absurd (let no : false ≡ true = e in cc)
 counted_once Resources key vs e one = ap (total_line key) one
+counted_once (NthField separator number) key vs e one = ap (total_line key) one
 counted_once (InvertedIndex keep_case) key vs e one = absurd (let no : false ≡ true = e in cc)
 
 pub one_line : (key : List ℕ) → total_line key 1 ≡ key ++ 9 ∷ 49 ∷ 10 ∷ []

@@ -1,13 +1,14 @@
 -- The text of a group of a job that counts, and texts that grow.
 use Rattle.std.proofs.Common.{◌≡◌, ℕ, ◌++◌, true, false, List, length, take, drop, arith, length-append, refl, ap, ◌∙◌, sym}
 use Rattle.std.proofs.lemmas.List.{take-append-le, take-append-drop, take_all}
-use Rattle.mr_jobs.specs.JobSpec.{WordCount, LinesWith, Resources, InvertedIndex}
+use Rattle.mr_jobs.specs.JobSpec.{WordCount, LinesWith, Resources, InvertedIndex, NthField}
 use Rattle.mr_reduce.specs.Laws.{CountersTellTheNumber}
 
 pub counters_tell_the_number : CountersTellTheNumber
 counters_tell_the_number (WordCount keep_case) key values is = refl
 counters_tell_the_number (LinesWith literal fold) key values is = absurd (let no : false ≡ true = is in cc)
 counters_tell_the_number Resources key values is = refl
+counters_tell_the_number (NthField separator number) key values is = refl
 counters_tell_the_number (InvertedIndex keep_case) key values is = absurd (let no : false ≡ true = is in cc)
 
 -- what stands in front stays there while the text behind it changes

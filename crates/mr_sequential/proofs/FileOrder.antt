@@ -6,7 +6,7 @@ use Rattle.mr_bytes.specs.declared.Value.{Value}
 use Rattle.mr_bytes.specs.Lists.{Has}
 use Rattle.mr_records.specs.Records.{Record, records}
 use Rattle.mr_input.specs.Files.{split_count}
-use Rattle.mr_jobs.specs.JobSpec.{JobSpec, WordCount, LinesWith, Resources, InvertedIndex, counts}
+use Rattle.mr_jobs.specs.JobSpec.{JobSpec, WordCount, LinesWith, Resources, InvertedIndex, NthField, counts}
 use Rattle.mr_jobs.specs.Emissions.{emissions, value_at}
 use Rattle.std.specs.List.{flat_map}
 use Rattle.mr_reduce.specs.Text.{file_in}
@@ -129,6 +129,7 @@ tells-file (WordCount keep_case) file start f h = absurd h
 tells-file (LinesWith literal fold) file start f (inl e) = sym e
 tells-file (LinesWith literal fold) file start f (inr none) = absurd none
 tells-file Resources file start f h = absurd h
+tells-file (NthField separator number) file start f h = absurd h
 tells-file (InvertedIndex keep_case) file start f (inl e) = sym e
 tells-file (InvertedIndex keep_case) file start f (inr none) = absurd none
 

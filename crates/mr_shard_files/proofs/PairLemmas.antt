@@ -6,7 +6,7 @@ use Rattle.std.proofs.lemmas.Bool.{ne_eqb}
 use Rattle.std.proofs.lemmas.Fmt.{decimal_injective}
 use Rattle.std.proofs.lemmas.List.{length-drop, take-append-drop, take_all}
 use Rattle.mr_bytes.specs.Cut.{Lacks}
-use Rattle.mr_jobs.specs.JobSpec.{JobSpec, WordCount, LinesWith, Resources, InvertedIndex, counts, has_lines}
+use Rattle.mr_jobs.specs.JobSpec.{JobSpec, WordCount, LinesWith, Resources, InvertedIndex, NthField, counts, has_lines}
 use Rattle.mr_shards.specs.Lines.{EndsLine, after_last, lines, longer}
 use Rattle.mr_shards.proofs.LineLemmas.{there}
 use Rattle.mr_shards.proofs.ReadingLemmas.{after-last, decimal-lacks, lines-none}
@@ -64,30 +64,35 @@ states_one : (job : JobSpec) (line : List ℕ) (k m : ℕ) → States job line k
 states_one (WordCount keep) line k m h g = count_one line k m h g
 states_one (LinesWith literal fold) line k m h g = h ∙ sym g
 states_one Resources line k m h g = count_one line k m h g
+states_one (NthField separator number) line k m h g = count_one line k m h g
 states_one (InvertedIndex keep) line k m h g = h ∙ sym g
 
 states_count : (job : JobSpec) (line : List ℕ) (n : ℕ) → counts job ≡ true → EndsInCount line n → States job line n
 states_count (WordCount keep) line n e h = h
 states_count (LinesWith literal fold) line n e h = absurd (cc)
 states_count Resources line n e h = h
+states_count (NthField separator number) line n e h = h
 states_count (InvertedIndex keep) line n e h = absurd (cc)
 
 count_stated : (job : JobSpec) (line : List ℕ) (n : ℕ) → counts job ≡ true → States job line n → EndsInCount line n
 count_stated (WordCount keep) line n e h = h
 count_stated (LinesWith literal fold) line n e h = absurd (cc)
 count_stated Resources line n e h = h
+count_stated (NthField separator number) line n e h = h
 count_stated (InvertedIndex keep) line n e h = absurd (cc)
 
 pub one_stated : (job : JobSpec) (line : List ℕ) → counts job ≡ false → has_lines job ≡ true → States job line 1
 one_stated (WordCount keep) line e h = absurd (cc)
 one_stated (LinesWith literal fold) line e h = refl
 one_stated Resources line e h = absurd (cc)
+one_stated (NthField separator number) line e h = absurd (cc)
 one_stated (InvertedIndex keep) line e h = absurd (cc)
 
 pub none_stated : (job : JobSpec) (line : List ℕ) → counts job ≡ false → has_lines job ≡ false → States job line 0
 none_stated (WordCount keep) line e h = absurd (cc)
 none_stated (LinesWith literal fold) line e h = absurd (cc)
 none_stated Resources line e h = absurd (cc)
+none_stated (NthField separator number) line e h = absurd (cc)
 none_stated (InvertedIndex keep) line e h = refl
 
 -- this is the number that a line states, or none fits
@@ -242,18 +247,21 @@ pub total_fits : (job : JobSpec) (texts : List (List ℕ)) (n : ℕ) → HaveTot
 total_fits (WordCount keep) texts n h = h
 total_fits (LinesWith literal fold) texts n h = h
 total_fits Resources texts n h = h
+total_fits (NthField separator number) texts n h = h
 total_fits (InvertedIndex keep) texts n h = tt
 
 pub index_fits : (job : JobSpec) (texts : List (List ℕ)) (n : ℕ) → counts job ≡ false → has_lines job ≡ false → TotalFits job texts n
 index_fits (WordCount keep) texts n e h = absurd (cc)
 index_fits (LinesWith literal fold) texts n e h = absurd (cc)
 index_fits Resources texts n e h = absurd (cc)
+index_fits (NthField separator number) texts n e h = absurd (cc)
 index_fits (InvertedIndex keep) texts n e h = tt
 
 fits_total : (job : JobSpec) (texts : List (List ℕ)) (n : ℕ) → (counts job ≡ true) ⊎ (has_lines job ≡ true) → TotalFits job texts n → HaveTotal job texts n
 fits_total (WordCount keep) texts n w h = h
 fits_total (LinesWith literal fold) texts n w h = h
 fits_total Resources texts n w h = h
+fits_total (NthField separator number) texts n w h = h
 fits_total (InvertedIndex keep) texts n (inl e) h = absurd (cc)
 fits_total (InvertedIndex keep) texts n (inr e) h = absurd (cc)
 

@@ -4,7 +4,7 @@ use Rattle.std.specs.Prelude.{decimal, slice_index_or}
 use Rattle.std.specs.List.{AllByRecursion, flat_map}
 use Rattle.mr_bytes.specs.declared.Value.TheVariants.{At}
 use Rattle.mr_bytes.specs.Cut.{Lacks}
-use Rattle.mr_jobs.specs.JobSpec.{JobSpec, WordCount, LinesWith, Resources, InvertedIndex}
+use Rattle.mr_jobs.specs.JobSpec.{JobSpec, WordCount, LinesWith, Resources, InvertedIndex, NthField}
 use Rattle.mr_reduce.specs.Text.{comma_separated, files_line, files_of, place_line}
 use Rattle.mr_shards.specs.declared.cursor.Held.{Held}
 use Rattle.mr_shards.specs.declared.merger.ShardText.{ShardText}
@@ -47,6 +47,14 @@ line_of (WordCount keep_case) g h =
       text = total-first g.key n;
     }
 line_of Resources g h =
+    let n = length g.values in
+    record {
+      line = g.key ++ 9 ∷ decimal n;
+      clear = clear_behind g.key (decimal n) h.0 (no_feed n h.1);
+      states = (h.1, (g.key, refl));
+      text = total-first g.key n;
+    }
+line_of (NthField separator number) g h =
     let n = length g.values in
     record {
       line = g.key ++ 9 ∷ decimal n;

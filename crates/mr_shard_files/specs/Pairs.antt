@@ -1,7 +1,7 @@
 -- Pairs that lines of outputs state.
 use Rattle.std.specs.Prelude.{◌≡◌, ℕ, ◌+◌, ◌<◌, ◌≤◌, ◌^◌, ⊤, List, [], ◌∷◌, ◌++◌, Option, None, Some, MatchOption, decimal, length, slice_index_or}
 use Rattle.std.specs.List.{AllByRecursion, flat_map}
-use Rattle.mr_jobs.specs.JobSpec.{JobSpec, WordCount, LinesWith, Resources, InvertedIndex}
+use Rattle.mr_jobs.specs.JobSpec.{JobSpec, WordCount, LinesWith, Resources, InvertedIndex, NthField}
 use Rattle.mr_shards.specs.declared.cursor.Held.{Held}
 use Rattle.mr_shards.specs.Joined.{verdict_at}
 use Rattle.mr_shards.specs.Lines.{EndsLine, lines}
@@ -18,6 +18,7 @@ abbrev pub States : JobSpec → List ℕ → ℕ → Type 0
 States (WordCount keep_case) line n = EndsInCount line n
 States (LinesWith literal fold) line n = n ≡ 1
 States Resources line n = EndsInCount line n
+States (NthField separator number) line n = EndsInCount line n
 States (InvertedIndex keep_case) line n = n ≡ 0
 
 -- the lines state so many together
@@ -42,6 +43,7 @@ abbrev pub TotalFits : JobSpec → List (List ℕ) → ℕ → Type 0
 TotalFits (WordCount keep_case) texts n = HaveTotal (WordCount keep_case) texts n
 TotalFits (LinesWith literal fold) texts n = HaveTotal (LinesWith literal fold) texts n
 TotalFits Resources texts n = HaveTotal Resources texts n
+TotalFits (NthField separator number) texts n = HaveTotal (NthField separator number) texts n
 TotalFits (InvertedIndex keep_case) texts n = ⊤
 
 -- the lines of a shard's parts state the pairs that its verdict tells

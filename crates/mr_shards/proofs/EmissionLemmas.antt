@@ -7,9 +7,10 @@ use Rattle.mr_bytes.specs.declared.Value.{Value}
 use Rattle.mr_bytes.specs.declared.Value.TheVariants.{One, At}
 use Rattle.mr_bytes.specs.Pairs.{Triple}
 use Rattle.mr_bytes.specs.Words.{word_spans}
-use Rattle.mr_jobs.specs.JobSpec.{JobSpec, WordCount, LinesWith, Resources, InvertedIndex}
+use Rattle.mr_jobs.specs.JobSpec.{JobSpec, WordCount, LinesWith, Resources, InvertedIndex, NthField}
 use Rattle.mr_jobs.specs.Emissions.{Emission, emissions, word_emission, one_for}
 use Rattle.mr_jobs.specs.Literal.{holds}
+use Rattle.mr_jobs.specs.Fields.{field_of}
 use Rattle.mr_jobs.specs.Url.{url_of}
 use Rattle.mr_splits.specs.Cut.{left_out_flags}
 use Rattle.mr_splits.specs.Named.{NamedRecord, is_left_out, named_records}
@@ -74,6 +75,11 @@ emissions-shifted (LinesWith literal fold) s file start line = by (holds fold li
     by true = refl
     by false = refl
 emissions-shifted Resources s file start line = by (url_of line)
+  where
+    by : (o : Option (List ℕ)) → one_for o ≡ map (shifted_pair s) (one_for o)
+    by None = refl
+    by (Some key) = refl
+emissions-shifted (NthField separator number) s file start line = by (field_of separator number line)
   where
     by : (o : Option (List ℕ)) → one_for o ≡ map (shifted_pair s) (one_for o)
     by None = refl

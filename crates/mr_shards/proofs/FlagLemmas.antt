@@ -2,7 +2,7 @@
 use Rattle.std.proofs.Common.{◌≡◌, ◌+◌, ◌<◌, refl, ap, arith, true, false}
 use Rattle.mr_bytes.specs.declared.By.{By}
 use Rattle.mr_bytes.specs.declared.By.TheVariants.{Host, Key}
-use Rattle.mr_jobs.specs.JobSpec.{ByFits, InvertedIndex, JobSpec, LinesWith, Resources, WordCount, by_flag, job_flags}
+use Rattle.mr_jobs.specs.JobSpec.{ByFits, InvertedIndex, NthField, JobSpec, LinesWith, Resources, WordCount, by_flag, job_flags}
 use Rattle.mr_shards.specs.Truth.{by_told}
 
 -- the flags of a job are below that of a partition by host
@@ -12,6 +12,7 @@ flags_below (WordCount false) = omega arith
 flags_below (LinesWith literal true) = omega arith
 flags_below (LinesWith literal false) = omega arith
 flags_below Resources = omega arith
+flags_below (NthField separator number) = omega arith
 flags_below (InvertedIndex true) = omega arith
 flags_below (InvertedIndex false) = omega arith
 
@@ -29,6 +30,7 @@ by_of (WordCount false) Key fits = refl
 by_of (LinesWith literal true) Key fits = refl
 by_of (LinesWith literal false) Key fits = refl
 by_of Resources Key fits = refl
+by_of (NthField separator number) Key fits = refl
 by_of (InvertedIndex true) Key fits = refl
 by_of (InvertedIndex false) Key fits = refl
 by_of job Host fits = ap (λ j. by_told (job_flags j + 4)) fits

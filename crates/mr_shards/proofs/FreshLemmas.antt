@@ -10,7 +10,7 @@ use Rattle.mr_shards.specs.declared.merger.ShardText.{ShardText}
 use Rattle.mr_shards.specs.declared.shift.ShardFiles.{ShardFiles}
 use Rattle.mr_shards.specs.Merged.{Group}
 use Rattle.mr_shards.specs.Portions.{Shift, behind, no_shift, past_shard}
-use Rattle.mr_jobs.specs.JobSpec.{WordCount, LinesWith, Resources, InvertedIndex}
+use Rattle.mr_jobs.specs.JobSpec.{WordCount, LinesWith, Resources, InvertedIndex, NthField}
 use Rattle.mr_shards.specs.Cursors.{IsSum, all_pairs}
 use Rattle.mr_shards.specs.Lines.{groups_in}
 use Rattle.mr_shards.specs.Merged.{texts}
@@ -61,6 +61,7 @@ pub none-waits : (job : JobSpec) → IsWaitingFor job nothing_waits
 none-waits (WordCount keep_case) = refl
 none-waits (LinesWith literal fold) = refl
 none-waits Resources = refl
+none-waits (NthField separator number) = refl
 none-waits (InvertedIndex keep_case) = refl
 
 -- a shard of which nothing is taken

@@ -3,7 +3,7 @@ use Rattle.std.proofs.Common.{◌≡◌, ℕ, ◌+◌, ◌^◌, ◌%◌, ◌++�
 use Rattle.std.proofs.lemmas.List.{append_assoc, append_cancel_left, length-append, length-map, length-replicate}
 use Rattle.std.proofs.lemmas.Bool.{cases_lt, lt-ltb, le-ltb}
 use Rattle.std.specs.List.{AllByRecursion}
-use Rattle.mr_jobs.specs.JobSpec.{JobSpec, WordCount, LinesWith, Resources, InvertedIndex}
+use Rattle.mr_jobs.specs.JobSpec.{JobSpec, WordCount, LinesWith, Resources, InvertedIndex, NthField}
 use Rattle.mr_shards.specs.declared.cursor.Cursor.{Cursor}
 use Rattle.mr_shards.specs.declared.cursor.Held.{Held}
 use Rattle.mr_shards.specs.declared.line.Line.{Line}
@@ -126,6 +126,7 @@ one-moved : (job : JobSpec) (s : Shift) (g : Group) → pairs_in job (shifted_gr
 one-moved (WordCount keep_case) s g = length-map g.values (shifted_value s)
 one-moved (LinesWith literal fold) s g = length-map g.values (shifted_value s)
 one-moved Resources s g = length-map g.values (shifted_value s)
+one-moved (NthField separator number) s g = length-map g.values (shifted_value s)
 one-moved (InvertedIndex keep_case) s g = refl
 
 pub pairs-moved : (job : JobSpec) (s : Shift) (gs : List Group) → all_pairs job (map (shifted_group s) gs) ≡ all_pairs job gs
@@ -145,8 +146,11 @@ told-pairs job l kind = by job l.tally refl kind
     by (LinesWith literal fold) (Place file offset) e k = ap pairs_told e ∙ sym (ap (λ (t : Tally). length (values_of t)) e)
     by (LinesWith literal fold) (Files list last moved) e k = absurd k
     by Resources (Total n) e k = ap pairs_told e ∙ sym (ap (λ (t : Tally). length (values_of t)) e ∙ length-replicate n _)
+    by (NthField separator number) (Total n) e k = ap pairs_told e ∙ sym (ap (λ (t : Tally). length (values_of t)) e ∙ length-replicate n _)
     by Resources (Place file offset) e k = absurd k
+    by (NthField separator number) (Place file offset) e k = absurd k
     by Resources (Files list last moved) e k = absurd k
+    by (NthField separator number) (Files list last moved) e k = absurd k
     by (InvertedIndex keep_case) (Total n) e k = absurd k
     by (InvertedIndex keep_case) (Place file offset) e k = absurd k
     by (InvertedIndex keep_case) (Files list last moved) e k = ap pairs_told e

@@ -8,7 +8,7 @@ use Rattle.mr_bytes.specs.Lists.{Has, Rises}
 use Rattle.mr_bytes.specs.Order.{key_order}
 use Rattle.mr_bytes.proofs.ListLaws.{Has-all, Has-flat_map_from, all_from_Has}
 use Rattle.mr_shards.specs.declared.merger.ShardText.{ShardText}
-use Rattle.mr_jobs.specs.JobSpec.{JobSpec, RequestSpec, WordCount, LinesWith, Resources, InvertedIndex}
+use Rattle.mr_jobs.specs.JobSpec.{JobSpec, RequestSpec, WordCount, LinesWith, Resources, InvertedIndex, NthField}
 use Rattle.mr_reduce.specs.Text.{file_in, files_line, files_of}
 use Rattle.mr_sequential.specs.Sequential.{sequential}
 use Rattle.mr_shards.specs.Lines.{HasLine, group_in, groups_in, places_in}
@@ -35,19 +35,16 @@ abbrev read_groups : JobSpec → List Group → List Group
 read_groups (WordCount keep_case) gs = gs
 read_groups (LinesWith literal fold) gs = flat_map (λ (g : Group). one-each g.key g.values) gs
 read_groups Resources gs = gs
+read_groups (NthField separator number) gs = gs
 read_groups (InvertedIndex keep_case) gs = map files_read gs
 
 ones : (vs : List Value) → AllByRecursion (λ v. v ≡ One) vs → vs ≡ replicate (length vs) One
 ones [] all = refl
 ones (v ∷ vs) all = let here = all.0 in let rest = ones vs all.1 in λ i. here i ∷ rest i
 
-word-lines : (keep_case : Bool) (gs : List Group) → AllByRecursion (IsFineGroup (WordCount keep_case)) gs → AllByRecursion (HasLine (WordCount keep_case)) gs
-word-lines keep_case [] all = tt
-word-lines keep_case (g ∷ gs) all = ((all.0.clear, all.0.few, ones g.values all.0.values), word-lines keep_case gs all.1)
-
-url-lines : (gs : List Group) → AllByRecursion (IsFineGroup Resources) gs → AllByRecursion (HasLine Resources) gs
-url-lines [] all = tt
-url-lines (g ∷ gs) all = ((all.0.clear, all.0.few, ones g.values all.0.values), url-lines gs all.1)
+count-lines : (job : JobSpec) → ((g : Group) → IsFineGroup job g → HasLine job g) → (gs : List Group) → AllByRecursion (IsFineGroup job) gs → AllByRecursion (HasLine job) gs
+count-lines job one [] all = tt
+count-lines job one (g ∷ gs) all = (one g all.0, count-lines job one gs all.1)
 
 each-line : (literal : List ℕ) (fold : Bool) (k : List ℕ) (vs : List Value) → Lacks 10 k → AllByRecursion (IsCounted (LinesWith literal fold)) vs
     → AllByRecursion (HasLine (LinesWith literal fold)) (one-each k vs)
@@ -104,12 +101,13 @@ index-read keep_case (g ∷ gs) all =
 -- ---- the text of groups is read as what their lines tell
 
 texts-read : (job : JobSpec) (gs : List Group) → AllByRecursion (IsFineGroup job) gs → groups_in job (texts job gs) ≡ read_groups job gs
-texts-read (WordCount keep_case) gs all = one_reading (WordCount keep_case) gs (word-lines keep_case gs all)
+texts-read (WordCount keep_case) gs all = one_reading (WordCount keep_case) gs (count-lines (WordCount keep_case) (λ g fine. (fine.clear, fine.few, ones g.values fine.values)) gs all)
 texts-read (LinesWith literal fold) gs all =
     let job : JobSpec = LinesWith literal fold in
     ap (groups_in job) (sym (all-texts literal fold gs))
     ∙ one_reading job (flat_map (λ (g : Group). one-each g.key g.values) gs) (place-lines literal fold gs all)
-texts-read Resources gs all = one_reading Resources gs (url-lines gs all)
+texts-read Resources gs all = one_reading Resources gs (count-lines Resources (λ g fine. (fine.clear, fine.few, ones g.values fine.values)) gs all)
+texts-read (NthField separator number) gs all = one_reading (NthField separator number) gs (count-lines (NthField separator number) (λ g fine. (fine.clear, fine.few, ones g.values fine.values)) gs all)
 texts-read (InvertedIndex keep_case) gs all = index-read keep_case gs all
 
 -- ---- lines merge as their groups do
@@ -176,6 +174,7 @@ lines-merge : (job : JobSpec) (parts : List Part) → AllByRecursion (AreFine jo
 lines-merge (WordCount keep_case) parts fine = ap (λ ps. texts (WordCount keep_case) (merged_portions ps)) (same-parts (WordCount keep_case) parts (λ gs. refl))
 lines-merge (LinesWith literal fold) parts fine = ap (texts (LinesWith literal fold)) (places-whole literal fold parts fine)
 lines-merge Resources parts fine = ap (λ ps. texts Resources (merged_portions ps)) (same-parts Resources parts (λ gs. refl))
+lines-merge (NthField separator number) parts fine = ap (λ ps. texts (NthField separator number) (merged_portions ps)) (same-parts (NthField separator number) parts (λ gs. refl))
 lines-merge (InvertedIndex keep_case) parts fine =
     alike-texts keep_case (merged_portions (map (lines_part (InvertedIndex keep_case)) parts)) (merged_portions parts)
     (alike-portions (map (lines_part (InvertedIndex keep_case)) parts) parts (parts-alike keep_case parts))

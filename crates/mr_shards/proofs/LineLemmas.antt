@@ -7,7 +7,7 @@ use Rattle.std.specs.Prelude.{decimal}
 use Rattle.std.proofs.lemmas.List.{replicate-append-replicate, length-replicate, append-nil}
 use Rattle.mr_bytes.specs.declared.Value.{Value}
 use Rattle.mr_bytes.specs.declared.Value.TheVariants.{One, At}
-use Rattle.mr_jobs.specs.JobSpec.{JobSpec, WordCount, LinesWith, Resources, InvertedIndex, counts, has_lines}
+use Rattle.mr_jobs.specs.JobSpec.{JobSpec, WordCount, LinesWith, Resources, InvertedIndex, NthField, counts, has_lines}
 use Rattle.std.specs.Ordering.{nat_cmp}
 use Rattle.mr_bytes.specs.Lists.{Rises}
 use Rattle.mr_reduce.specs.Text.{comma_separated, files_line, place_line, total_line}
@@ -55,6 +55,7 @@ pub total_told : (job : JobSpec) (key : List ℕ) (n : ℕ) → counts job ≡ t
 total_told (WordCount keep_case) key n e = ap (total_line key) (length-replicate n One)
 total_told (LinesWith literal fold) key n e = absurd cc
 total_told Resources key n e = ap (total_line key) (length-replicate n One)
+total_told (NthField separator number) key n e = ap (total_line key) (length-replicate n One)
 total_told (InvertedIndex keep_case) key n e = absurd cc
 
 pub Lacks-front : (b : ℕ) (xs ys : List ℕ) → Lacks b (xs ++ ys) → Lacks b xs
@@ -121,8 +122,12 @@ cut-text (LinesWith literal fold) (Place file offset) text line key told rest h 
 cut-text (LinesWith literal fold) (Files list last moved) text line key told rest h is = absurd is
 cut-text Resources (Total n) text line key told rest h is =
     cut-whole text line key told rest (decimal n) h is.0 ∙ sym (total-first key n rest) ∙ ap (λ l. l ++ rest) (sym (total_told Resources key n refl))
+cut-text (NthField separator number) (Total n) text line key told rest h is =
+    cut-whole text line key told rest (decimal n) h is.0 ∙ sym (total-first key n rest) ∙ ap (λ l. l ++ rest) (sym (total_told (NthField separator number) key n refl))
 cut-text Resources (Place file offset) text line key told rest h is = absurd is
+cut-text (NthField separator number) (Place file offset) text line key told rest h is = absurd is
 cut-text Resources (Files list last moved) text line key told rest h is = absurd is
+cut-text (NthField separator number) (Files list last moved) text line key told rest h is = absurd is
 cut-text (InvertedIndex keep_case) (Total n) text line key told rest h is = absurd is
 cut-text (InvertedIndex keep_case) (Place file offset) text line key told rest h is = absurd is
 cut-text (InvertedIndex keep_case) (Files list last moved) text line key told rest h is =
@@ -151,8 +156,14 @@ cut-read Resources (Total n) text line key told rest h is =
     ap (groups_in Resources) (cut-whole text line key told rest (decimal n) h is.0 ∙ sym (total-first key n rest))
     ∙ total-read Resources key n rest (cut-clear text line key told rest h) is.1
     ∙ (let e = ap (λ m. replicate m One) (value-of n is.1) in λ i. record { key = key; values = e i } ∷ groups_in Resources rest)
+cut-read (NthField separator number) (Total n) text line key told rest h is =
+    ap (groups_in (NthField separator number)) (cut-whole text line key told rest (decimal n) h is.0 ∙ sym (total-first key n rest))
+    ∙ total-read (NthField separator number) key n rest (cut-clear text line key told rest h) is.1
+    ∙ (let e = ap (λ m. replicate m One) (value-of n is.1) in λ i. record { key = key; values = e i } ∷ groups_in (NthField separator number) rest)
 cut-read Resources (Place file offset) text line key told rest h is = absurd is
+cut-read (NthField separator number) (Place file offset) text line key told rest h is = absurd is
 cut-read Resources (Files list last moved) text line key told rest h is = absurd is
+cut-read (NthField separator number) (Files list last moved) text line key told rest h is = absurd is
 cut-read (InvertedIndex keep_case) (Total n) text line key told rest h is = absurd is
 cut-read (InvertedIndex keep_case) (Place file offset) text line key told rest h is = absurd is
 cut-read (InvertedIndex keep_case) (Files list last moved) text line key told rest h is =
@@ -170,8 +181,11 @@ told-for (LinesWith literal fold) (Total n) told h = h
 told-for (LinesWith literal fold) (Place file offset) told h = tt
 told-for (LinesWith literal fold) (Files list last moved) told h = h
 told-for Resources (Total n) told h = tt
+told-for (NthField separator number) (Total n) told h = tt
 told-for Resources (Place file offset) told h = h
+told-for (NthField separator number) (Place file offset) told h = h
 told-for Resources (Files list last moved) told h = h
+told-for (NthField separator number) (Files list last moved) told h = h
 told-for (InvertedIndex keep_case) (Total n) told h = h
 told-for (InvertedIndex keep_case) (Place file offset) told h = h
 told-for (InvertedIndex keep_case) (Files list last moved) told h =
@@ -183,6 +197,7 @@ told-still job (Place file offset) told h = tt
 told-still (WordCount keep_case) (Files list last moved) told h = absurd h
 told-still (LinesWith literal fold) (Files list last moved) told h = absurd h
 told-still Resources (Files list last moved) told h = absurd h
+told-still (NthField separator number) (Files list last moved) told h = absurd h
 told-still (InvertedIndex keep_case) (Files list last moved) told h = (h.1, subst (IsListTo last) h.0 h.2)
 
 pub same_key : (j k : List ℕ) → not (bytes_eq j k) ≡ false → j ≡ k
@@ -197,6 +212,7 @@ pub no-list : (job : JobSpec) (told : List ℕ) → counts job ≡ false → has
 no-list (WordCount keep_case) told c l none t h = absurd (cc c)
 no-list (LinesWith literal fold) told c l none t h = absurd (cc l)
 no-list Resources told c l none t h = absurd (cc c)
+no-list (NthField separator number) told c l none t h = absurd (cc c)
 no-list (InvertedIndex keep_case) told c l none (Total n) h = h
 no-list (InvertedIndex keep_case) told c l none (Place file offset) h = h
 no-list (InvertedIndex keep_case) told c l none (Files list last moved) h = none last h.2
@@ -276,8 +292,11 @@ told-lacks (LinesWith literal fold) (Place file offset) told b digit colon comma
     subst (Lacks b) (sym is.0) (Lacks-append b (decimal file) (58 ∷ decimal offset) (decimal-lacks b file digit (omega (arith, is.1))) (λ e. colon (sym e), decimal-lacks b offset digit is.2))
 told-lacks (LinesWith literal fold) (Files list last moved) told b digit colon comma is = absurd is
 told-lacks Resources (Total n) told b digit colon comma is = subst (Lacks b) (sym is.0) (decimal-lacks b n digit is.1)
+told-lacks (NthField separator number) (Total n) told b digit colon comma is = subst (Lacks b) (sym is.0) (decimal-lacks b n digit is.1)
 told-lacks Resources (Place file offset) told b digit colon comma is = absurd is
+told-lacks (NthField separator number) (Place file offset) told b digit colon comma is = absurd is
 told-lacks Resources (Files list last moved) told b digit colon comma is = absurd is
+told-lacks (NthField separator number) (Files list last moved) told b digit colon comma is = absurd is
 told-lacks (InvertedIndex keep_case) (Total n) told b digit colon comma is = absurd is
 told-lacks (InvertedIndex keep_case) (Place file offset) told b digit colon comma is = absurd is
 told-lacks (InvertedIndex keep_case) (Files list last moved) told b digit colon comma is =
@@ -318,4 +337,5 @@ total-added job t some key m n total places is kind waits sum = by job (subst (I
     by (WordCount keep_case) k w = counted w
     by (LinesWith literal fold) k w = absurd k
     by Resources k w = counted w
+    by (NthField separator number) k w = counted w
     by (InvertedIndex keep_case) k w = absurd k

@@ -8,7 +8,7 @@ use Rattle.std.specs.declared.cmp.Ordering.{Ordering}
 use Rattle.std.specs.declared.cmp.Ordering.TheVariants.{Less, Equal, Greater}
 use Rattle.mr_bytes.specs.Lists.{Has, Rises}
 use Rattle.mr_bytes.specs.Order.{key_order}
-use Rattle.mr_jobs.specs.JobSpec.{JobSpec, WordCount, LinesWith, Resources, InvertedIndex}
+use Rattle.mr_jobs.specs.JobSpec.{JobSpec, WordCount, LinesWith, Resources, InvertedIndex, NthField}
 use Rattle.mr_reduce.specs.Text.{place_line}
 use Rattle.mr_sequential.proofs.KeyLaws.{key_tie, with_key-cases}
 use Rattle.mr_bytes.proofs.ListLaws.{Has-all, all_from_Has}
@@ -57,6 +57,7 @@ front-place : (job : JobSpec) (g : Group) (gs : List Group) → joins job ≡ fa
 front-place (WordCount keep_case) g gs lines all = absurd (cc lines)
 front-place (LinesWith literal fold) g gs lines all = front-places literal fold g gs all
 front-place Resources g gs lines all = absurd (cc lines)
+front-place (NthField separator number) g gs lines all = absurd (cc lines)
 front-place (InvertedIndex keep_case) g gs lines all = absurd (cc lines)
 
 -- keys of a group and those behind it

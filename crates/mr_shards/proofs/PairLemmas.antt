@@ -10,11 +10,13 @@ use Rattle.mr_bytes.specs.declared.Span.{Span}
 use Rattle.mr_bytes.specs.declared.Value.{Value}
 use Rattle.mr_bytes.specs.declared.Value.TheVariants.{One, At}
 use Rattle.mr_input.specs.Files.{nth_file}
-use Rattle.mr_jobs.specs.JobSpec.{JobSpec, RequestSpec, WordCount, LinesWith, Resources, InvertedIndex}
+use Rattle.mr_jobs.specs.JobSpec.{JobSpec, RequestSpec, WordCount, LinesWith, Resources, InvertedIndex, NthField}
 use Rattle.mr_jobs.specs.Emissions.{Emission, emissions, word_key, word_emission, one_for}
 use Rattle.mr_jobs.specs.Literal.{holds}
 use Rattle.mr_bytes.specs.Cut.{Lacks}
 use Rattle.mr_jobs.specs.Url.{IsRequestFor, url_of}
+use Rattle.mr_jobs.specs.Fields.{field_of}
+use Rattle.mr_jobs.proofs.FieldLemmas.{field_inside}
 use Rattle.mr_jobs.proofs.UrlLemmas.{url_by_parts}
 use Rattle.mr_records.specs.Records.{Record, records}
 use Rattle.mr_records.proofs.LawLemmas.{no_line_feeds}
@@ -66,6 +68,7 @@ abbrev pub IsValueOf : JobSpec → ℕ → ℕ → Value → Type 0
 IsValueOf (WordCount keep_case) file start v = v ≡ One
 IsValueOf (LinesWith literal fold) file start v = v ≡ At file start
 IsValueOf Resources file start v = v ≡ One
+IsValueOf (NthField separator number) file start v = v ≡ One
 IsValueOf (InvertedIndex keep_case) file start v = v ≡ At file start
 
 pub record IsPairOf (job : JobSpec) (file start : ℕ) (key : List ℕ) (value : Value) : Type 0 where
@@ -89,6 +92,18 @@ url-clear line key clear is =
     let request = Lacks-front 10 _ (34 ∷ p.rest) (Lacks-behind 10 p.front (34 ∷ _) whole).1 in
     Lacks-front 10 key p.after (Lacks-behind 10 p.before (32 ∷ (key ++ p.after)) (subst (Lacks 10) p.request_is request)).1
 
+field-clear : (separator : Option ℕ) (number : ℕ) (line key : List ℕ) → Lacks 10 line → field_of separator number line ≡ Some key → Lacks 10 key
+field-clear separator number line key clear is =
+    let p = field_inside separator number line key is in
+    Lacks-front 10 key p.back (Lacks-behind 10 p.front (key ++ p.back) (subst (Lacks 10) p.line_is clear))
+
+-- the one key of a job that counts
+pair-of-key : (job : JobSpec) (file start : ℕ) (found : Option (List ℕ)) (e : Emission) → ((key : List ℕ) → found ≡ Some key → Lacks 10 key)
+    → IsValueOf job file start One → Has (one_for found) e → IsPairOf job file start e.0 e.1
+pair-of-key job file start None e clear value none = absurd none
+pair-of-key job file start (Some key) e clear value (inl at) = subst (λ (f : Emission). IsPairOf job file start f.0 f.1) at (record { clear = clear key refl; value_is = value })
+pair-of-key job file start (Some key) e clear value (inr none) = absurd none
+
 emission-pairs : (job : JobSpec) (file start : ℕ) (line : List ℕ) (e : Emission) → Lacks 10 line → Has (emissions job file start line) e → IsPairOf job file start e.0 e.1
 emission-pairs (WordCount keep_case) file start line e clear h = words-pairs (WordCount keep_case) file start One keep_case line (word_spans line) e clear refl h
 emission-pairs (LinesWith literal fold) file start line e clear h = by (holds fold line literal) h
@@ -97,12 +112,9 @@ emission-pairs (LinesWith literal fold) file start line e clear h = by (holds fo
     by true (inl is) = subst (λ (f : Emission). IsPairOf (LinesWith literal fold) file start f.0 f.1) is (record { clear = clear; value_is = refl })
     by true (inr none) = absurd none
     by false none = absurd none
-emission-pairs Resources file start line e clear h = by (url_of line) refl h
-  where
-    by : (o : Option (List ℕ)) → url_of line ≡ o → Has (one_for o) e → IsPairOf Resources file start e.0 e.1
-    by None is none = absurd none
-    by (Some key) is (inl at) = subst (λ (f : Emission). IsPairOf Resources file start f.0 f.1) at (record { clear = url-clear line key clear is; value_is = refl })
-    by (Some key) is (inr none) = absurd none
+emission-pairs Resources file start line e clear h = pair-of-key Resources file start (url_of line) e (λ key is. url-clear line key clear is) refl h
+emission-pairs (NthField separator number) file start line e clear h =
+    pair-of-key (NthField separator number) file start (field_of separator number line) e (λ key is. field-clear separator number line key clear is) refl h
 emission-pairs (InvertedIndex keep_case) file start line e clear h =
     words-pairs (InvertedIndex keep_case) file start (At file start) keep_case line (word_spans line) e clear refl h
 
@@ -153,6 +165,7 @@ abbrev pub IsCounted : JobSpec → Value → Type 0
 IsCounted (WordCount keep_case) v = v ≡ One
 IsCounted (LinesWith literal fold) v = (file : ℕ) × (offset : ℕ) × (file < 2 ^ 64) × (offset < 2 ^ 64) × (v ≡ At file offset)
 IsCounted Resources v = v ≡ One
+IsCounted (NthField separator number) v = v ≡ One
 IsCounted (InvertedIndex keep_case) v = (file : ℕ) × (offset : ℕ) × (file < 2 ^ 64) × (offset < 2 ^ 64) × (v ≡ At file offset)
 
 pub record IsFinePair (job : JobSpec) (t : Triple) : Type 0 where
@@ -163,6 +176,7 @@ counted : (job : JobSpec) (file start : ℕ) (v : Value) → file < 2 ^ 64 → s
 counted (WordCount keep_case) file start v f s is = is
 counted (LinesWith literal fold) file start v f s is = (file, start, f, s, is)
 counted Resources file start v f s is = is
+counted (NthField separator number) file start v f s is = is
 counted (InvertedIndex keep_case) file start v f s is = (file, start, f, s, is)
 
 record-pairs : (job : JobSpec) (skips : List RecordName) (r : NamedRecord) (t : Triple) → IsFineRecord r → Has (record_triples job skips r) t → IsFinePair job t

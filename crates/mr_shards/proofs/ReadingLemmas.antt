@@ -9,7 +9,7 @@ use Rattle.std.specs.Int.{IsInRange}
 use Rattle.std.specs.List.{flat_map}
 use Rattle.std.specs.Str.Parse.{AllDigits, digits_value}
 use Rattle.mr_bytes.specs.declared.Value.TheVariants.{One, At}
-use Rattle.mr_jobs.specs.JobSpec.{JobSpec, WordCount, LinesWith, Resources, InvertedIndex}
+use Rattle.mr_jobs.specs.JobSpec.{JobSpec, WordCount, LinesWith, Resources, InvertedIndex, NthField}
 use Rattle.mr_bytes.specs.Cut.{Lacks}
 use Rattle.mr_jobs.specs.Url.{before_byte}
 use Rattle.mr_reduce.specs.Text.{comma_separated, file_in, files_line, files_of, total_line, place_line}
@@ -217,6 +217,9 @@ line-read (LinesWith literal fold) g rest h =
 line-read Resources g rest h =
     total-read Resources g.key (length g.values) rest h.0 h.1
     ∙ (let same = ap (λ n. replicate n One) (value-of (length g.values) h.1) ∙ sym h.2 in λ i. record { key = g.key; values = same i } ∷ groups_in Resources rest)
+line-read (NthField separator number) g rest h =
+    total-read (NthField separator number) g.key (length g.values) rest h.0 h.1
+    ∙ (let same = ap (λ n. replicate n One) (value-of (length g.values) h.1) ∙ sym h.2 in λ i. record { key = g.key; values = same i } ∷ groups_in (NthField separator number) rest)
 line-read (InvertedIndex keep_case) g rest h =
     let job : JobSpec = InvertedIndex keep_case in
     let w = h.1 in

@@ -9,7 +9,7 @@ use Rattle.mr_bytes.specs.declared.Value.TheVariants.{One, At}
 use Rattle.mr_bytes.specs.Lists.{Has}
 use Rattle.mr_shards.specs.Portions.{Shift, behind, no_shift, past_cut, past_shard}
 use Rattle.mr_shards.specs.Refused.{PassesNot}
-use Rattle.mr_jobs.specs.JobSpec.{JobSpec, WordCount, LinesWith, Resources, InvertedIndex}
+use Rattle.mr_jobs.specs.JobSpec.{JobSpec, WordCount, LinesWith, Resources, InvertedIndex, NthField}
 use Rattle.mr_bytes.specs.Cut.{Lacks}
 use Rattle.mr_shards.specs.declared.cursor.Cursor.{Cursor}
 use Rattle.mr_shards.specs.declared.merger.MergeFault.{MergeFault}
@@ -44,8 +44,13 @@ has-line (LinesWith literal fold) g (Files list last moved) told clear is e = ab
 has-line Resources g (Total n) told clear is e =
     let l : length g.values ≡ n = ap length e ∙ length-replicate n One in
     (clear, omega (arith, l, is.1), e ∙ ap (λ k. replicate k One) (sym l))
+has-line (NthField separator number) g (Total n) told clear is e =
+    let l : length g.values ≡ n = ap length e ∙ length-replicate n One in
+    (clear, omega (arith, l, is.1), e ∙ ap (λ k. replicate k One) (sym l))
 has-line Resources g (Place file offset) told clear is e = absurd is
+has-line (NthField separator number) g (Place file offset) told clear is e = absurd is
 has-line Resources g (Files list last moved) told clear is e = absurd is
+has-line (NthField separator number) g (Files list last moved) told clear is e = absurd is
 has-line (InvertedIndex keep_case) g (Total n) told clear is e = absurd is
 has-line (InvertedIndex keep_case) g (Place file offset) told clear is e = absurd is
 has-line (InvertedIndex keep_case) g (Files list last moved) told clear is e =

@@ -7,7 +7,7 @@ use Rattle.mr_bytes.specs.Order.{key_order}
 use Rattle.mr_jobs.specs.JobSpec.{JobSpec}
 use Rattle.mr_group.specs.FirstBytes.{AreBytes, first_bytes}
 use Rattle.mr_bytes.specs.Cut.{Lacks}
-use Rattle.mr_jobs.specs.JobSpec.{WordCount, LinesWith, Resources, InvertedIndex}
+use Rattle.mr_jobs.specs.JobSpec.{WordCount, LinesWith, Resources, InvertedIndex, NthField}
 use Rattle.mr_shards.specs.declared.cursor.Cursor.{Cursor}
 use Rattle.mr_shards.specs.declared.cursor.Held.{Held}
 use Rattle.mr_shards.specs.declared.line.Tally.{Tally}
@@ -60,6 +60,7 @@ abbrev pub pairs_in : JobSpec → Group → ℕ
 pairs_in (WordCount keep_case) g = length g.values
 pairs_in (LinesWith literal fold) g = length g.values
 pairs_in Resources g = length g.values
+pairs_in (NthField separator number) g = length g.values
 pairs_in (InvertedIndex keep_case) g = 0
 
 unfoldable pub all_pairs : JobSpec → List Group → ℕ

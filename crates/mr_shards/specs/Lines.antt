@@ -6,7 +6,7 @@ use Rattle.std.specs.declared.cmp.Ordering.TheVariants.{Less}
 use Rattle.mr_bytes.specs.declared.Value.{Value}
 use Rattle.mr_bytes.specs.declared.Value.TheVariants.{One, At}
 use Rattle.mr_bytes.specs.Order.{key_order}
-use Rattle.mr_jobs.specs.JobSpec.{JobSpec, WordCount, LinesWith, Resources, InvertedIndex, has_lines}
+use Rattle.mr_jobs.specs.JobSpec.{JobSpec, WordCount, LinesWith, Resources, InvertedIndex, NthField, has_lines}
 use Rattle.mr_bytes.specs.Lists.{Rises}
 use Rattle.std.specs.Ordering.{nat_cmp}
 use Rattle.mr_bytes.specs.Cut.{Lacks}
@@ -65,6 +65,7 @@ abbrev pub values_in : JobSpec → List ℕ → List Value
 values_in (WordCount keep_case) told = replicate (digits_value 10 told) One
 values_in (LinesWith literal fold) told = At (digits_value 10 (before_byte 58 told)) (digits_value 10 (after_first 58 told)) ∷ []
 values_in Resources told = replicate (digits_value 10 told) One
+values_in (NthField separator number) told = replicate (digits_value 10 told) One
 values_in (InvertedIndex keep_case) told = places_in (numbers_in told)
 
 -- the group that a line tells
@@ -80,6 +81,7 @@ abbrev pub HasLine : JobSpec → Group → Type 0
 HasLine (WordCount keep_case) g = Lacks 10 g.key × (length g.values < 2 ^ 64) × (g.values ≡ replicate (length g.values) One)
 HasLine (LinesWith literal fold) g = Lacks 10 g.key × ((file : ℕ) × (offset : ℕ) × (file < 2 ^ 64) × (offset < 2 ^ 64) × (g.values ≡ At file offset ∷ []))
 HasLine Resources g = Lacks 10 g.key × (length g.values < 2 ^ 64) × (g.values ≡ replicate (length g.values) One)
+HasLine (NthField separator number) g = Lacks 10 g.key × (length g.values < 2 ^ 64) × (g.values ≡ replicate (length g.values) One)
 HasLine (InvertedIndex keep_case) g = Lacks 10 g.key × ((n : ℕ) × (ns : List ℕ) × Rises nat_cmp (n ∷ ns) × AllByRecursion (λ m. m < 2 ^ 64) (n ∷ ns) × (g.values ≡ places_in (n ∷ ns)))
 
 -- no key is before an earlier one

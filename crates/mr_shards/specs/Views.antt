@@ -2,7 +2,7 @@
 use Rattle.std.specs.Prelude.{Bool, true, false, ◌≡◌, ℕ, ◌+◌, ◌<◌, ◌^◌, List, [], ◌∷◌, ◌++◌, Option, None, Some, map, replicate, decimal}
 use Rattle.mr_bytes.specs.declared.Value.{Value}
 use Rattle.mr_bytes.specs.declared.Value.TheVariants.{One, At}
-use Rattle.mr_jobs.specs.JobSpec.{JobSpec, WordCount, LinesWith, Resources, InvertedIndex}
+use Rattle.mr_jobs.specs.JobSpec.{JobSpec, WordCount, LinesWith, Resources, InvertedIndex, NthField}
 use Rattle.mr_bytes.specs.Cut.{Lacks}
 use Rattle.mr_shards.specs.declared.line.Line.{Line}
 use Rattle.mr_shards.specs.declared.line.Tally.{Tally}
@@ -35,8 +35,11 @@ IsParsed (LinesWith literal fold) (Total n) told = ⊥
 IsParsed (LinesWith literal fold) (Place file offset) told = (told ≡ decimal file ++ 58 ∷ decimal offset) × (file < 2 ^ 32) × (offset < 2 ^ 64)
 IsParsed (LinesWith literal fold) (Files list last moved) told = ⊥
 IsParsed Resources (Total n) told = (told ≡ decimal n) × (n < 2 ^ 64)
+IsParsed (NthField separator number) (Total n) told = (told ≡ decimal n) × (n < 2 ^ 64)
 IsParsed Resources (Place file offset) told = ⊥
+IsParsed (NthField separator number) (Place file offset) told = ⊥
 IsParsed Resources (Files list last moved) told = ⊥
+IsParsed (NthField separator number) (Files list last moved) told = ⊥
 IsParsed (InvertedIndex keep_case) (Total n) told = ⊥
 IsParsed (InvertedIndex keep_case) (Place file offset) told = ⊥
 IsParsed (InvertedIndex keep_case) (Files list last moved) told = (told ≡ list.now) × (moved ≡ no_shift) × IsListTo last told
@@ -60,8 +63,11 @@ IsFor (LinesWith literal fold) (Total n) = ⊥
 IsFor (LinesWith literal fold) (Place file offset) = Unit {0}
 IsFor (LinesWith literal fold) (Files list last moved) = ⊥
 IsFor Resources (Total n) = Unit {0}
+IsFor (NthField separator number) (Total n) = Unit {0}
 IsFor Resources (Place file offset) = ⊥
+IsFor (NthField separator number) (Place file offset) = ⊥
 IsFor Resources (Files list last moved) = ⊥
+IsFor (NthField separator number) (Files list last moved) = ⊥
 IsFor (InvertedIndex keep_case) (Total n) = ⊥
 IsFor (InvertedIndex keep_case) (Place file offset) = ⊥
 IsFor (InvertedIndex keep_case) (Files list last moved) = IsListTo last list.now × (moved.files + last < 2 ^ 32)
@@ -100,4 +106,5 @@ abbrev pub IsWaitingFor : JobSpec → Waits → Type 0
 IsWaitingFor (WordCount keep_case) w = w.places ≡ []
 IsWaitingFor (LinesWith literal fold) w = w.total ≡ 0
 IsWaitingFor Resources w = w.places ≡ []
+IsWaitingFor (NthField separator number) w = w.places ≡ []
 IsWaitingFor (InvertedIndex keep_case) w = w.total ≡ 0
