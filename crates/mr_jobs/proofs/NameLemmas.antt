@@ -1,9 +1,11 @@
 -- A job is known by its number, its flags and its literal.
-use Rattle.std.proofs.Common.{◌≡◌, ℕ, true, false, ◌∷◌, Option, None, Some, get_or, drop, refl, sym, ap, ◌∙◌, arith, inr}
+use Rattle.std.proofs.Common.{◌≡◌, ℕ, ◌<◌, ◌≤◌, ◌^◌, true, false, List, ◌∷◌, Option, None, Some, get_or, drop, refl, sym, ap, ◌∙◌, subst, arith, inr}
 use Rattle.std.specs.Prelude.{decimal}
-use Rattle.std.proofs.lemmas.Fmt.{decimal_injective, decimal_is_IsNumeral}
+use Rattle.std.proofs.lemmas.Fmt.{IsAscii-decimal, decimal_injective, decimal_is_IsNumeral}
+use Rattle.std.proofs.lemmas.Str.{IsUtf8-from_ascii}
+use Rattle.std.specs.Str.{IsUtf8}
 use Rattle.std.proofs.lemmas.Str.Parse.{digit_at}
-use Rattle.mr_jobs.specs.Fields.{FieldFits, field_literal}
+use Rattle.mr_jobs.specs.Fields.{FieldFits, NumberFits, field_literal}
 use Rattle.mr_jobs.specs.JobSpec.{WordCount, LinesWith, Resources, InvertedIndex, NthField}
 use Rattle.mr_jobs.specs.Laws.{JobsAreNamed}
 
@@ -61,3 +63,23 @@ jobs_named (NthField separator number) (LinesWith literal fold) fa fb n f l = ab
 jobs_named (NthField separator number) Resources fa fb n f l = absurd (omega (arith, n))
 jobs_named (NthField separator number) (InvertedIndex k) fa fb n f l = absurd (omega (arith, n))
 jobs_named (NthField s number) (NthField t other) fa fb n f l = same_field s t number other fa fb l
+
+-- ---- a name that is read
+
+-- a first byte that is no digit is the separator
+pub separated_name : (name digits : List ℕ) (first : ℕ) → name ≡ first ∷ digits → (0x30 ≤ first → first ≤ 0x39 → ⊥)
+    → (separator : Option ℕ) (number : ℕ) → FieldFits separator number → name ≡ field_literal separator number → (Some first ≡ separator) × (digits ≡ decimal number)
+separated_name name digits first is other None number fits e =
+    let numeral = (decimal_is_IsNumeral number (omega (arith, fits.number_fits.1))).0 in
+    let digit = digit_at (decimal number) 0 numeral.1 numeral.0 in
+    let same : get_or (decimal number) 0 0 ≡ first = ap (λ l. get_or l 0 0) (sym e ∙ is) in
+    absurd (other (omega (arith, digit.0, same)) (omega (arith, digit.1, same)))
+separated_name name digits first is other (Some s) number fits e =
+    let same : first ∷ digits ≡ s ∷ decimal number = sym is ∙ e in
+    (ap (λ l. Some (get_or l 0 0)) same, ap (drop 1) same)
+
+pub small_number : (number : ℕ) → NumberFits number → number < 2 ^ 32
+small_number number fits = omega (arith, fits.1)
+
+pub decimal_text : (number : ℕ) (digits : List ℕ) → NumberFits number → digits ≡ decimal number → IsUtf8 digits
+decimal_text number digits fits e = subst IsUtf8 (sym e) (IsUtf8-from_ascii (decimal number) (IsAscii-decimal number (omega (arith, fits.1))))

@@ -123,3 +123,9 @@ JobFits (LinesWith literal fold) = LiteralFits literal
 JobFits Resources = Unit {0}
 JobFits (InvertedIndex keep_case) = Unit {0}
 JobFits (NthField separator number) = FieldFits separator number
+
+-- it counts fields, and the literal names which
+pub record CountsFieldsNamed (literal : List ℕ) (job : JobSpec) : Type 0 where
+  pub fits : JobFits job
+  pub number : job_number job ≡ 5
+  pub literal_is : job_literal job ≡ literal

@@ -13,10 +13,11 @@
 //! but the name. It ends where the record does, however great the number is.
 //! Source: docs/FORMATS.md, "Jobs".
 ghost use Rattle.std.specs.Prelude.{◌≡◌, ℕ, ◌≤◌, ◌↔◌, ◌++◌, ◌-◌, None, Some, IfOk, IfSome, MatchOption};
-ghost use Rattle.std.specs.Prelude.{IsTrue, length, true, false};
+ghost use Rattle.std.specs.Prelude.{IsTrue, Option, decimal, length, true, false};
 ghost use Rattle.std.specs.List.{prefix_len};
-ghost use Rattle.mr_jobs.specs.Fields.{CannotSeparate, behind_blanks, field_behind, field_literal};
-ghost use Rattle.mr_jobs.specs.Fields.{field_of, is_no_blank, separator_bytes, stretch_behind};
+ghost use Rattle.mr_jobs.specs.Fields.{CannotSeparate, FieldFits, NumberFits, behind_blanks, field_behind};
+ghost use Rattle.mr_jobs.specs.Fields.{field_literal, field_of, is_no_blank, separator_bytes};
+ghost use Rattle.mr_jobs.specs.Fields.{stretch_behind};
 ghost use Rattle.mr_jobs.specs.Laws.{FieldsAreBetween, FieldsAreStretches};
 
 use crate::url::{after_byte, before_byte};
@@ -149,6 +150,30 @@ fn stretch_behind(line: &[u8], before: u32) -> Option<&[u8]>
     }
     let field = &rest[..stretch_end(rest)];
     if field.is_empty() { None } else { Some(field) }
+}
+
+/// The parts of a name: the byte in front, unless it is a digit, and the digits.
+pub(crate) fn name_parts(name: &[u8]) -> (Option<u8>, &[u8])
+    ensures { (separator : Option ℕ) (number : ℕ) → FieldFits separator number
+        → name.now ≡ field_literal separator number → (result.0 ≡ separator) × (result.1.now ≡ decimal number) }
+{
+    match name.split_first() {
+        Some((first, digits)) if !first.is_ascii_digit() => (Some(*first), digits),
+        _ => (None, name),
+    }
+}
+
+/// The number that digits write, or 0 for any other bytes.
+pub(crate) fn number_of(digits: &[u8]) -> u32
+    ensures { (number : ℕ) → NumberFits number → digits.now ≡ decimal number → result ≡ number }
+{
+    let Ok(text) = str::from_utf8(digits) else {
+        return 0;
+    };
+    match text.parse::<u32>() {
+        Ok(number) => number,
+        Err(_) => 0,
+    }
 }
 
 /// What `field_of` means: the stretch of that number between separators, or the maximal stretch of

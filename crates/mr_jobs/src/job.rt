@@ -1,17 +1,17 @@
 //! What a job does with each record.
 ghost use Rattle.std.specs.Prelude.{◌≡◌, ◌↔◌, ℕ, ◌≤◌, ◌<◌, IfOk, IsTrue, OnOk, IsOkUnless, length};
-ghost use Rattle.std.specs.Prelude.{[], ◌⊎◌, Contains};
+ghost use Rattle.std.specs.Prelude.{[], ◌⊎◌, Contains, MatchOption};
 ghost use Rattle.std.specs.Option.{IsSomeAnd};
 ghost use Rattle.mr_jobs.specs.JobSpec.{WordCount, LinesWith, Resources, InvertedIndex, NthField};
-ghost use Rattle.mr_jobs.specs.JobSpec.{JobFits, LiteralFits, counts, has_lines, job_number, row_of};
+ghost use Rattle.mr_jobs.specs.JobSpec.{CountsFieldsNamed, JobFits, JobSpec, LiteralFits, counts, has_lines, job_number, row_of};
 ghost use Rattle.mr_jobs.specs.JobSpec.{folds_words, job_literal};
 ghost use Rattle.mr_jobs.specs.Emissions.{value_at};
 ghost use Rattle.mr_jobs.specs.Fields.{CannotSeparate, FieldFits, NumberFits};
 ghost use Rattle.mr_jobs.specs.Laws.{JobsAreNamed};
 
-use crate::field::{Field, cannot_separate};
+use crate::field::{Field, cannot_separate, name_parts, number_of};
 use mr_bytes::Value;
-use std::alloc::Global;
+use std::alloc::{AllocError, Global};
 use std::marker::Model;
 use thiserror::Error;
 
@@ -169,6 +169,24 @@ impl Job {
                 kind: Kind::Field(field),
             }),
             Err(_) => Err(JobFault::OutOfMemory),
+        }
+    }
+
+    /// The job that counts the fields that a literal names, if it names any.
+    pub fn field_named(alloc: Global, literal: &[u8]) -> Result<Option<Job>, AllocError>
+        ensures { IfOk result (λ r. MatchOption r ((job : JobSpec) → CountsFieldsNamed literal.now job → ⊥)
+            (λ j. CountsFieldsNamed literal.now j)) }
+    {
+        let (separator, digits) = name_parts(literal);
+        let job = match Job::field(alloc, separator, number_of(digits)) {
+            Ok(job) => job,
+            Err(JobFault::OutOfMemory) => return Err(AllocError),
+            Err(_) => return Ok(None),
+        };
+        if job.literal() == literal {
+            Ok(Some(job))
+        } else {
+            Ok(None)
         }
     }
 
