@@ -13,7 +13,7 @@ import sys
 
 WORD = re.compile(rb"[0-9A-Za-z\x80-\xff]+")
 FOLD = bytes(b + 32 if 0x41 <= b <= 0x5A else b for b in range(256))
-JOBS = {"words": 1, "grep": 2, "url": 3, "index": 4}
+JOBS = {"words": 1, "grep": 2, "url": 3, "index": 4, "field": 5}
 name_bytes = struct.Struct(">III").pack
 
 
@@ -55,7 +55,28 @@ def mapper_of(asked):
         table = FOLD if asked.fold else None
         literal = os.fsencode(asked.literal).translate(table)
         return lambda file, start, line: [(line, b"%d:%d" % (file, start))] if literal in line.translate(table) else []
+    if asked.job == "field":
+        return lambda file, start, line: [(key, None) for key in [field_of(asked, line)] if key is not None]
     return lambda file, start, line: [(key, None) for key in [resource_of(line)] if key is not None]
+
+
+def separator_of(asked):
+    """The byte that separates fields, or nothing where runs of spaces and tabs do."""
+    return b"\t" if asked.separator == "\\t" else os.fsencode(asked.separator or "")
+
+
+def field_of(asked, line):
+    """The field of the number asked for, from 1, or none."""
+    separator, rest = separator_of(asked), line
+    if not separator:
+        stretches = line.replace(b"\t", b" ").strip(b" ")
+        words = [word for word in stretches.split(b" ") if word]
+        return words[asked.field - 1] if asked.field <= len(words) else None
+    for _ in range(asked.field - 1):
+        _, found, rest = rest.partition(separator)
+        if not found:
+            return None
+    return rest.partition(separator)[0]
 
 
 def host_of(key):
@@ -115,7 +136,7 @@ def grouped(asked, files, skips):
 
 def front_of(asked, files, skips):
     """What stands in a certificate before its partitions."""
-    literal = os.fsencode(asked.literal or "")
+    literal = separator_of(asked) + b"%d" % asked.field if asked.job == "field" else os.fsencode(asked.literal or "")
     flags = (1 if asked.keep_case else 0) + (2 if asked.fold else 0) + (4 if asked.by_host else 0)
     front = b"MRCERT%d\n" % asked.cert + struct.pack(">III", JOBS[asked.job], flags, len(literal)) + literal
     front += struct.pack(">III", asked.parts, asked.split, len(files)) + b"".join(struct.pack(">Q", len(data)) for data in files)
@@ -160,6 +181,8 @@ def main():
     parser.add_argument("--literal", help="what grep looks for")
     parser.add_argument("--fold", action="store_true", help="grep: letters in either case")
     parser.add_argument("--keep-case", action="store_true", help="words, index: capitals are not folded")
+    parser.add_argument("--field", type=int, default=0, help="field: the number of the field, from 1")
+    parser.add_argument("--separator", help="field: the byte between fields; without it runs of spaces and tabs")
     parser.add_argument("--by-host", action="store_true", help="url: a key's output file is that of its host")
     parser.add_argument("--parts", type=int, default=1, help="partitions, one file each")
     parser.add_argument("--split", type=int, default=67108864, help="bytes of a split")
@@ -169,6 +192,8 @@ def main():
     asked = parser.parse_args()
     if asked.job == "grep" and not asked.literal:
         parser.error("grep needs --literal TEXT")
+    if asked.job == "field" and not 1 <= asked.field <= 65535:
+        parser.error("field needs --field N, from 1 to 65535")
     print(f"made: {asked.parts} files, {produce(asked)} pairs")
     return 0
 

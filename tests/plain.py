@@ -12,7 +12,8 @@ NAME = re.compile(SHORT * 3)
 WORD = re.compile(rb"[0-9A-Za-z\x80-\xff]+")
 HOST = re.compile(rb"https?://([^/:?#]*)", re.I)
 FOLD = bytes(b + 32 if 0x41 <= b <= 0x5A else b for b in range(256))
-JOBS = {"words": 1, "grep": 2, "url": 3, "index": 4}
+STRETCH = re.compile(rb"[^ \t]+")
+JOBS = {"words": 1, "grep": 2, "url": 3, "index": 4, "field": 5}
 
 
 @dataclass
@@ -27,6 +28,9 @@ class Request:
     fold: bool = False
     most: int = 0
     by_host: bool = False
+    # The number of the field, from 1, and the byte that separates fields; none for runs of spaces and tabs.
+    number: int = 0
+    separator: bytes = b""
 
     def options(self):
         words = ["--job", self.job, "--parts", str(self.parts), "--split", str(self.split)]
@@ -38,10 +42,18 @@ class Request:
             words.append("--fold")
         if self.by_host:
             words.append("--by-host")
+        if self.job == "field":
+            words += ["--field", str(self.number)]
+            if self.separator:
+                words.append("--separator=" + ("\\t" if self.separator == b"\t" else self.separator.decode()))
         return [*words, "--max-skips", str(self.most)]
 
     def flags(self):
         return 1 * self.keep + 2 * self.fold + 4 * self.by_host
+
+    def name(self):
+        """What the certificate has for a literal."""
+        return self.separator + b"%d" % self.number if self.job == "field" else self.literal
 
 
 def fnv(key):
@@ -111,6 +123,9 @@ def emitted(request, number, start, line):
     if request.job == "grep":
         table = FOLD if request.fold else None
         return [(line, (number, start))] if request.literal.translate(table) in line.translate(table) else []
+    if request.job == "field":
+        fields = line.split(request.separator) if request.separator else STRETCH.findall(line)
+        return [(field, None) for field in fields[request.number - 1 : request.number]]
     key = resource_of(line)
     return [] if key is None else [(key, None)]
 
@@ -207,7 +222,7 @@ class Certificate:
 
 def certificate_of(request, files, skips):
     """What a certificate of this request over these files says before its groups."""
-    return Certificate(JOBS[request.job], request.flags(), request.literal, request.parts, request.split, [len(data) for data in files], list(skips))
+    return Certificate(JOBS[request.job], request.flags(), request.name(), request.parts, request.split, [len(data) for data in files], list(skips))
 
 
 def produced(request, files, skips=()):
@@ -313,8 +328,8 @@ def judge_header(walk, request, files):
     walk.magic()
     wanted("OtherJob", walk.u32(), JOBS[request.job])
     wanted("OtherJob", walk.u32(), request.flags())
-    wanted("OtherJob", walk.u32(high=4096), len(request.literal))
-    for byte in request.literal:
+    wanted("OtherJob", walk.u32(high=4096), len(request.name()))
+    for byte in request.name():
         wanted("OtherJob", walk.take(1)[0], byte)
     wanted("OtherJob", walk.u32(1, 1024), request.parts)
     wanted("OtherJob", walk.u32(), request.split)

@@ -12,7 +12,7 @@ SPLITS = [1, 3, 16, 100, 67108864]
 def random_job(rnd, jobs=tuple(JOBS)):
     """A request of one of the jobs, files, and records to leave out of them."""
     job = rnd.choice(jobs)
-    if job == "url":
+    if job == "url" or (job == "field" and rnd.random() < 0.3):
         files = [random_log(rnd, rnd.randint(0, 40)) for _ in range(rnd.randint(0, 3))]
     else:
         files = [random_text(rnd, rnd.choice([0, 1, 50, 1500])) for _ in range(rnd.randint(0, 4))]
@@ -24,6 +24,9 @@ def random_job(rnd, jobs=tuple(JOBS)):
         request.fold = rnd.random() < 0.5
     if job == "url":
         request.by_host = rnd.random() < 0.5
+    if job == "field":
+        request.number = rnd.choice([1, 1, 2, 3, 7, 65535])
+        request.separator = rnd.choice([b"", b"", b" ", b"\t", b":", b"e", b"\r"])
     names = [name for name, *_ in named_records(files, request.split)]
     skips = sorted(rnd.sample(names, min(len(names), rnd.choice([0, 0, 0, 1, 5]))))
     request.most = len(skips) + rnd.choice([0, 0, 3])

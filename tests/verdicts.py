@@ -31,7 +31,7 @@ def told_verdict(request, inputs, outputs, spots, pairs):
     """The verdict with these lines of inputs."""
     numbers = [("verdict", 2), ("job", JOBS[request.job]), ("flags", request.flags())]
     out = [b"%s %d\n" % (word.encode(), number) for word, number in numbers]
-    out += [b"literal %s\n" % request.literal, b"partitions %d\nsplit %d\n" % (request.parts, request.split)]
+    out += [b"literal %s\n" % request.name(), b"partitions %d\nsplit %d\n" % (request.parts, request.split)]
     out += [*inputs, *(note(b"output", f"part-{p:05}", data) for p, data in enumerate(outputs))]
     out += [b"without %d %d\n" % spot for spot in spots]
     return b"".join([*out, b"emitted %d\n" % pairs])

@@ -164,12 +164,12 @@ impl Job {
                 return Err(JobFault::BadSeparator);
             }
         }
-        match Field::new(alloc, separator, number) {
-            Ok(field) => Ok(Job {
-                kind: Kind::Field(field),
-            }),
-            Err(_) => Err(JobFault::OutOfMemory),
-        }
+        let Ok(field) = Field::new(alloc, separator, number) else {
+            return Err(JobFault::OutOfMemory);
+        };
+        Ok(Job {
+            kind: Kind::Field(field),
+        })
     }
 
     /// The job that counts the fields that a literal names, if it names any.

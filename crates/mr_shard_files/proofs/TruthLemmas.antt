@@ -1,11 +1,12 @@
 -- What the joined verdict is worth, whatever request the verdicts are about.
-use Rattle.std.proofs.Common.{◌≡◌, ℕ, ◌<◌, List, [], ◌∷◌, length, refl, ap, sym, ◌∙◌, subst, arith, Bool, true, false}
+use Rattle.std.proofs.Common.{◌≡◌, ℕ, ◌<◌, List, [], ◌∷◌, length, refl, ap, sym, ◌∙◌, subst, arith}
 use Rattle.std.specs.Prelude.{Option}
 use Rattle.std.specs.List.{AllByRecursion}
 use Rattle.mr_files.specs.Holding.{Stored}
 use Rattle.mr_files.specs.Identities.{Known}
 use Rattle.mr_files.specs.Names.{part_files}
-use Rattle.mr_jobs.specs.JobSpec.{InvertedIndex, JobSpec, LinesWith, RequestSpec, Resources, WordCount, job_flags, job_literal, job_number}
+use Rattle.mr_jobs.specs.JobSpec.{JobSpec, RequestSpec}
+use Rattle.mr_jobs.proofs.NameLemmas.{jobs_named}
 use Rattle.mr_shards.specs.Joined.{AreMerged, AreTrueOf, IsJoined}
 use Rattle.mr_shards.specs.RangeVerdicts.{all_ranges}
 use Rattle.mr_shards.specs.Truth.{AreNotesOf, Asks, IsTrueOf}
@@ -15,34 +16,6 @@ use Rattle.mr_shards.proofs.JoinedLaws.{joined_is_true}
 use Rattle.mr_shard_files.specs.Merging.{AreAllWritten, IsMerging, IsReady, IsTrueOfAll, with_outputs}
 use Rattle.mr_shard_files.proofs.NoteLemmas.{files_count, notes_of}
 
--- a job is known by its number, its flags and its literal
-same_job : (a b : JobSpec) → job_number a ≡ job_number b → job_flags a ≡ job_flags b → job_literal a ≡ job_literal b → a ≡ b
-same_job (WordCount true) (WordCount true) n f l = refl
-same_job (WordCount true) (WordCount false) n f l = absurd (omega (arith, f))
-same_job (WordCount false) (WordCount true) n f l = absurd (omega (arith, f))
-same_job (WordCount false) (WordCount false) n f l = refl
-same_job (WordCount k) (LinesWith literal fold) n f l = absurd (omega (arith, n))
-same_job (WordCount k) Resources n f l = absurd (omega (arith, n))
-same_job (WordCount k) (InvertedIndex j) n f l = absurd (omega (arith, n))
-same_job (LinesWith literal fold) (WordCount k) n f l = absurd (omega (arith, n))
-same_job (LinesWith literal true) (LinesWith other true) n f l = ap (λ x. LinesWith x true) l
-same_job (LinesWith literal true) (LinesWith other false) n f l = absurd (omega (arith, f))
-same_job (LinesWith literal false) (LinesWith other true) n f l = absurd (omega (arith, f))
-same_job (LinesWith literal false) (LinesWith other false) n f l = ap (λ x. LinesWith x false) l
-same_job (LinesWith literal fold) Resources n f l = absurd (omega (arith, n))
-same_job (LinesWith literal fold) (InvertedIndex k) n f l = absurd (omega (arith, n))
-same_job Resources (WordCount k) n f l = absurd (omega (arith, n))
-same_job Resources (LinesWith literal fold) n f l = absurd (omega (arith, n))
-same_job Resources Resources n f l = refl
-same_job Resources (InvertedIndex k) n f l = absurd (omega (arith, n))
-same_job (InvertedIndex k) (WordCount j) n f l = absurd (omega (arith, n))
-same_job (InvertedIndex k) (LinesWith literal fold) n f l = absurd (omega (arith, n))
-same_job (InvertedIndex k) Resources n f l = absurd (omega (arith, n))
-same_job (InvertedIndex true) (InvertedIndex true) n f l = refl
-same_job (InvertedIndex true) (InvertedIndex false) n f l = absurd (omega (arith, f))
-same_job (InvertedIndex false) (InvertedIndex true) n f l = absurd (omega (arith, f))
-same_job (InvertedIndex false) (InvertedIndex false) n f l = refl
-
 -- the same, with another number of records that may be left out
 abbrev letting : RequestSpec → ℕ → RequestSpec
 letting r skips = record { job = r.job; by = r.by; parts = r.parts; split = r.split; skips = skips }
@@ -50,7 +23,7 @@ letting r skips = record { job = r.job; by = r.by; parts = r.parts; split = r.sp
 same_request : (v : Told) (r q : RequestSpec) → Asks v r → Asks v q → letting r q.skips ≡ q
 same_request v r q a b =
     let flags = one_flag r.job q.job r.by q.by (sym a.1 ∙ b.1) in
-    let job : r.job ≡ q.job = same_job r.job q.job (sym a.0 ∙ b.0) flags.0 (sym a.2 ∙ b.2) in
+    let job : r.job ≡ q.job = jobs_named r.job q.job a.5 b.5 (sym a.0 ∙ b.0) flags.0 (sym a.2 ∙ b.2) in
     let parts : r.parts ≡ q.parts = sym a.3 ∙ b.3 in
     let split : r.split ≡ q.split = sym a.4 ∙ b.4 in
     λ i. record { job = job i; by = flags.1 i; parts = parts i; split = split i; skips = q.skips }

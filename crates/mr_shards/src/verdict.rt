@@ -132,6 +132,7 @@ fn job_named(alloc: Global, verdict: &Verdict) -> Result<Option<Job>, AllocError
             Err(_) => Ok(None),
         },
         4 => Ok(Some(Job::index(verdict.flags == 1))),
+        5 => Job::field_named(alloc, verdict.literal.as_slice()),
         _ => Ok(Some(Job::url())),
     }
 }
