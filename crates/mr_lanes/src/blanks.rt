@@ -3,8 +3,9 @@
 //!     bytes    _ _ \t _ G E T ...      one bit a byte, the lowest first
 //!     others   0 0 0  0 1 1 1          the byte is neither a space nor a tab
 //!
-//! Invariant: all bytes before the place are spaces and tabs. The lowest set bit of the first block
-//! that has one is the result's place in the block. The rest goes byte by byte.
+//! Invariant: all bytes before the place are spaces and tabs. Most gaps are short: the first four
+//! bytes are looked at one by one. Then the lowest set bit of the first block that has one is the
+//! result's place in the block. What is behind the last block goes byte by byte again.
 //! Cost: linear in the result; no memory.
 ghost use Rattle.std.specs.Prelude.{◌≡◌, ℕ, ◌<◌, ◌≤◌, not, get_or, length};
 ghost use Rattle.std.specs.List.{prefix_len};
@@ -13,6 +14,9 @@ ghost use Rattle.mr_lanes.specs.Blanks.{is_blank};
 
 use std::simd::prelude::*;
 
+/// How many bytes are looked at before blocks are.
+const NEAR: usize = 4;
+
 /// How many bytes come before the first one that is neither a space nor a tab, or all. Takes no
 /// memory.
 #[inline]
@@ -20,7 +24,14 @@ pub fn leading_blanks(bytes: &[u8]) -> usize
     ensures within { result ≤ length bytes.now }
     ensures count { result ≡ prefix_len is_blank bytes.now }
 {
-    let mut at = 0;
+    let mut near = 0;
+    while near < NEAR && near < bytes.len() {
+        if !is_blank(bytes[near]) {
+            return near;
+        }
+        near += 1;
+    }
+    let mut at = near;
     while bytes.len() - at >= 64 {
         let others = no_blanks(u8x64::from_slice(&bytes[at..]));
         if others != 0 {
@@ -29,10 +40,17 @@ pub fn leading_blanks(bytes: &[u8]) -> usize
         at += 64;
     }
     let mut place = at;
-    while place < bytes.len() && (bytes[place] == b' ' || bytes[place] == b'\t') {
+    while place < bytes.len() && is_blank(bytes[place]) {
         place += 1;
     }
     place
+}
+
+#[inline(always)]
+fn is_blank(byte: u8) -> bool
+    ensures { result ≡ is_blank byte }
+{
+    byte == b' ' || byte == b'\t'
 }
 
 #[inline(always)]

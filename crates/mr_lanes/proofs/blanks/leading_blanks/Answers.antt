@@ -1,6 +1,5 @@
-use Rattle.std.proofs.Common.{◌≡◌, ℕ, zero, suc, ◌+◌, ◌-◌, ◌<◌, ◌≤◌, ◌^◌, Bool, true, false, not, List, length, get_or, drop, w64, refl, ap, sym, ◌∙◌, subst, arith}
+use Rattle.std.proofs.Common.{◌≡◌, ℕ, zero, suc, ◌+◌, ◌<◌, ◌≤◌, ◌^◌, Bool, true, false, not, List, length, get_or, drop, w64, refl, ap, sym, ◌∙◌, subst, arith}
 use Rattle.std.specs.List.{prefix_len}
-use Rattle.std.proofs.lemmas.Bool.{cases_Bool, true≢false}
 use Rattle.std.proofs.lemmas.List.{get_or-drop, length-drop}
 use Rattle.std.proofs.lemmas.List.Sums.{prefix_len-drop_yes, prefix_len_is}
 use Rattle.std.proofs.lemmas.Nat.Bits.{bit_at-trailing_zeros}
@@ -50,7 +49,7 @@ returns-then-others-ne0-clause-count c =
     let x = c.no_blanks-others.result in
     let t = count_trailing_zeros 64 x in
     let r : Rest (other_at bytes at) 0 x = all_rest (other_at bytes at) x (omega arith)
-        (λ i h. c.no_blanks-others.ensures i h ∙ ap (λ b. not (is_blank b)) (get_or-chunk at 64 bytes i 0 h)) in
+    (λ i h. c.no_blanks-others.ensures i h ∙ ap (λ b. not (is_blank b)) (get_or-chunk at 64 bytes i 0 h)) in
     let f : First (other_at bytes at) 0 t = first (other_at bytes at) 0 x r in
     let some : t < 64 = (bit_at-trailing_zeros w64 x (omega arith) (omega arith)).0 in
     let here : prefix_len is_blank (drop at bytes) ≡ t =
@@ -66,7 +65,7 @@ loop-at-preserved c =
     let x = c.no_blanks-others.result in
     let none : x ≡ 0 = omega arith in
     let r : Rest (other_at bytes at) 0 x = all_rest (other_at bytes at) x (omega arith)
-        (λ i h. c.no_blanks-others.ensures i h ∙ ap (λ b. not (is_blank b)) (get_or-chunk at 64 bytes i 0 h)) in
+    (λ i h. c.no_blanks-others.ensures i h ∙ ap (λ b. not (is_blank b)) (get_or-chunk at 64 bytes i 0 h)) in
     let clear : Rest (other_at bytes at) 0 0 = subst (Rest (other_at bytes at) 0) none r in
     let next : prefix_len is_blank (drop at bytes) ≡ 64 + prefix_len is_blank (drop (at + 64) bytes) =
     over 64 at bytes (omega arith) (λ j less. not_false (is_blank (get_or bytes (at + j) 0)) (no_rest (other_at bytes at) 0 clear j (omega arith) less)) in

@@ -20,3 +20,12 @@ invariant-loop-place l = record {
 
 abbrev pub decreases-loop-place : goal.decreases-loop-place
 decreases-loop-place l = length l.bytes - l.place
+
+abbrev pub invariant-loop-near : goal.invariant-loop-near
+invariant-loop-near l = record {
+  within : l.near ≤ length l.bytes;
+  same : prefix_len is_blank l.bytes ≡ l.near + prefix_len is_blank (drop l.near l.bytes);
+}
+
+abbrev pub decreases-loop-near : goal.decreases-loop-near
+decreases-loop-near l = length l.bytes - l.near
