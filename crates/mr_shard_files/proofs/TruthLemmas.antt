@@ -5,7 +5,7 @@ use Rattle.std.specs.List.{AllByRecursion}
 use Rattle.mr_files.specs.Holding.{Stored}
 use Rattle.mr_files.specs.Identities.{Known}
 use Rattle.mr_files.specs.Names.{part_files}
-use Rattle.mr_jobs.specs.JobSpec.{JobSpec, RequestSpec}
+use Rattle.mr_jobs.specs.JobSpec.{JobFits, RequestSpec}
 use Rattle.mr_jobs.proofs.NameLemmas.{jobs_named}
 use Rattle.mr_shards.specs.Joined.{AreMerged, AreTrueOf, IsJoined}
 use Rattle.mr_shards.specs.RangeVerdicts.{all_ranges}
@@ -20,10 +20,10 @@ use Rattle.mr_shard_files.proofs.NoteLemmas.{files_count, notes_of}
 abbrev letting : RequestSpec → ℕ → RequestSpec
 letting r skips = record { job = r.job; by = r.by; parts = r.parts; split = r.split; skips = skips }
 
-same_request : (v : Told) (r q : RequestSpec) → Asks v r → Asks v q → letting r q.skips ≡ q
-same_request v r q a b =
+same_request : (v : Told) (r q : RequestSpec) → JobFits r.job → JobFits q.job → Asks v r → Asks v q → letting r q.skips ≡ q
+same_request v r q f g a b =
     let flags = one_flag r.job q.job r.by q.by (sym a.1 ∙ b.1) in
-    let job : r.job ≡ q.job = jobs_named r.job q.job a.5 b.5 (sym a.0 ∙ b.0) flags.0 (sym a.2 ∙ b.2) in
+    let job : r.job ≡ q.job = jobs_named r.job q.job f g (sym a.0 ∙ b.0) flags.0 (sym a.2 ∙ b.2) in
     let parts : r.parts ≡ q.parts = sym a.3 ∙ b.3 in
     let split : r.split ≡ q.split = sym a.4 ∙ b.4 in
     λ i. record { job = job i; by = flags.1 i; parts = parts i; split = split i; skips = q.skips }
@@ -43,16 +43,16 @@ joined_letting r skips vs m j = record {
   few = j.few;
 }
 
-first_asks : (r q : RequestSpec) (vs : List Told) (files parts : List (List (List ℕ))) → 0 < length vs → AllByRecursion (λ v. Asks v r) vs → AreTrueOf q vs files parts → letting r q.skips ≡ q
-first_asks r q [] files parts some h t = absurd (omega (arith, some))
-first_asks r q (v ∷ vs) [] parts some h t = absurd t
-first_asks r q (v ∷ vs) (f ∷ files) [] some h t = absurd t
-first_asks r q (v ∷ vs) (f ∷ files) (p ∷ parts) some h t = same_request v r q h.0 t.0.asks
+first_asks : (r q : RequestSpec) (vs : List Told) (files parts : List (List (List ℕ))) → JobFits r.job → JobFits q.job → 0 < length vs → AllByRecursion (λ v. Asks v r) vs → AreTrueOf q vs files parts → letting r q.skips ≡ q
+first_asks r q [] files parts f g some h t = absurd (omega (arith, some))
+first_asks r q (v ∷ vs) [] parts f g some h t = absurd t
+first_asks r q (v ∷ vs) (x ∷ files) [] f g some h t = absurd t
+first_asks r q (v ∷ vs) (x ∷ files) (p ∷ parts) f g some h t = same_request v r q f g h.0 t.0.asks
 
-pub true_of_all : (r : RequestSpec) (vs : List Told) (m : Told) (parts : List (List (List ℕ))) (outputs : List (List ℕ)) → 0 < r.split → 0 < length vs
+pub true_of_all : (r : RequestSpec) (vs : List Told) (m : Told) (parts : List (List (List ℕ))) (outputs : List (List ℕ)) → JobFits r.job → 0 < r.split → 0 < length vs
     → IsJoined r vs m → AreNotesOf m.outputs outputs → length outputs ≡ r.parts → AreMerged r vs parts outputs → IsTrueOfAll vs parts m outputs
-true_of_all r vs m parts outputs split some j notes count merged q files t =
-    let same = first_asks r q vs files parts some j.alike t in
+true_of_all r vs m parts outputs fits split some j notes count merged q files f t =
+    let same = first_asks r q vs files parts fits f some j.alike t in
     subst (λ (x : RequestSpec). IsTrueOf x m (all_ranges files) outputs) same
     (joined_is_true (letting r q.skips) vs m files parts outputs split (joined_letting r q.skips vs m j) notes count merged
     (subst (λ (x : RequestSpec). AreTrueOf x vs files parts) (sym same) t))
@@ -87,5 +87,5 @@ merging_ready old new known names list dir partial vs r m notes k a =
       count = w.count;
       merged = w.merged;
       notes_are = a.notes_are;
-      true_of = true_of_all r vs (with_outputs m notes) w.parts w.texts k.split k.some whole noted w.count w.merged;
+      true_of = true_of_all r vs (with_outputs m notes) w.parts w.texts k.fits k.split k.some whole noted w.count w.merged;
     }

@@ -5,7 +5,7 @@ use Rattle.mr_input.specs.Files.{nth_file}
 use Rattle.mr_files.specs.Holding.{Begins, ChangesAmong, Holding, Stored}
 use Rattle.mr_files.specs.Identities.{Known}
 use Rattle.mr_files.specs.Names.{merged_names, name_of_verdict, part_files, part_names}
-use Rattle.mr_jobs.specs.JobSpec.{JobSpec, RequestSpec}
+use Rattle.mr_jobs.specs.JobSpec.{JobFits, JobSpec, RequestSpec}
 use Rattle.mr_shards.specs.Refused.{IsRest}
 use Rattle.mr_shards.specs.Joined.{AreMerged, AreOnce, AreTrueOf, IsJoined, verdict_at}
 use Rattle.mr_shards.specs.RangeNotes.{TileFiles}
@@ -56,12 +56,12 @@ ArePartsOf holds job count [] [] [] = Unit {0}
 ArePartsOf holds job count (n ∷ ns) (v ∷ vs) (ps ∷ pss) = AreParts holds job count n v ps × ArePartsOf holds job count ns vs pss
 ArePartsOf holds job count _ _ _ = ⊥
 
--- whatever the request and the inputs, where each verdict is true of its ranges and its parts, the one verdict is true of
+-- whatever the request that can be made and the inputs, where each verdict is true of its ranges and its parts, the one verdict is true of
 -- all ranges and of the outputs: each is that of the sequential execution over the files that all ranges make up, without all
 -- left-out records
 abbrev pub IsTrueOfAll : List Told → List (List (List ℕ)) → Told → List (List ℕ) → Type 0
 IsTrueOfAll vs parts m outputs = (request : RequestSpec) (ranges : List (List (List ℕ)))
-    → AreTrueOf request vs ranges parts → IsTrueOf request m (all_ranges ranges) outputs
+    → JobFits request.job → AreTrueOf request vs ranges parts → IsTrueOf request m (all_ranges ranges) outputs
 
 -- each tells of so many outputs
 abbrev pub AreCounted : List Told → ℕ → Type 0
@@ -81,6 +81,7 @@ pub record IsJoinedOnce (partial : Bool) (request : RequestSpec) (vs : List Told
 pub record IsReady (holds : Stored) (known : Known) (names : List (List ℕ)) (list : Option (List ℕ)) (dir : List ℕ) (partial : Bool) (vs : List Told) (request : RequestSpec) (m : Told) : Type 0 where
   pub asks : Asks (verdict_at vs 0) request
   pub some : 0 < length vs
+  pub fits : JobFits request.job
   pub split : 0 < request.split
   pub all : IsJoinedOnce partial request vs m
   pub listed : IsListed holds list m.inputs

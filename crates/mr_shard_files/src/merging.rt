@@ -3,6 +3,7 @@
 //! verdict of the whole.
 ghost use Rattle.std.specs.Prelude.{◌≡◌, ◌<◌, ◌^◌, IfErr, IfOk, OnOk, length, map, option_map};
 ghost use Rattle.std.specs.List.{AllByRecursion};
+ghost use Rattle.mr_jobs.specs.JobSpec.{JobFits};
 ghost use Rattle.mr_shards.specs.Joined.{AreOnce, IsNearRange, IsRepeated, verdict_at, inputs_of};
 ghost use Rattle.mr_shards.specs.RangeNotes.{TileFiles};
 ghost use Rattle.mr_shards.specs.Truth.{Asks};
@@ -38,6 +39,7 @@ use std::thread::Threads;
 fn first_request(alloc: Global, verdicts: &[Verdict]) -> Result<Request, ShardFault>
     ensures ok { IfOk result (λ r. Asks (verdict_at verdicts.now 0) r) }
     ensures some { IfOk result (λ _. 0 < length verdicts.now) }
+    ensures fits { IfOk result (λ r. JobFits r.job) }
     ensures split { IfOk result (λ r. 0 < r.split) }
     ensures err { IfErr result (IsFirstFault verdicts.now) }
 {
@@ -46,7 +48,8 @@ fn first_request(alloc: Global, verdicts: &[Verdict]) -> Result<Request, ShardFa
     };
     match request_of(alloc, first)? {
         Some(request) => {
-            // The call brings the fact that a split is not empty.
+            // The calls bring the facts that its job fits and that a split is not empty.
+            let _job = request.job();
             let _size = request.split_size();
             Ok(request)
         }

@@ -39,10 +39,10 @@ AreNotesOf [] (f ∷ fs) = ⊥
 AreNotesOf (n ∷ ns) [] = ⊥
 AreNotesOf (n ∷ ns) (f ∷ fs) = IsNoteOf n f × AreNotesOf ns fs
 
--- the verdict is about this request, whose job can be made; how many records it lets be left out is not told
+-- the verdict is about this request; how many records it lets be left out is not told
 abbrev pub Asks : Told → RequestSpec → Type 0
 Asks v request = (v.job ≡ job_number request.job) × (v.flags ≡ flags_of request) × (v.literal ≡ job_literal request.job)
-    × (v.parts ≡ request.parts) × (v.split ≡ request.split) × JobFits request.job
+    × (v.parts ≡ request.parts) × (v.split ≡ request.split)
 
 -- what it states of the input
 abbrev pub about : Told → RangeVerdict
