@@ -7,12 +7,13 @@ ghost use Rattle.std.specs.List.{flat_map};
 ghost use Rattle.mr_reduce.specs.Appending.{Appends};
 ghost use Rattle.mr_reduce.specs.Files.{listed};
 ghost use Rattle.mr_reduce.specs.Text.{text_of, total_line, place_line};
+ghost use Rattle.mr_reduce.specs.Writing.{file_text};
 ghost use Rattle.mr_reduce.specs.Laws.{CountersTellTheNumber, FilesAreTold, FilesRise};
 
 mod files;
 mod writer;
 
-use crate::files::{Listed, put_files};
+use crate::files::{Listed, put_behind, put_files};
 use itoa::Buffer;
 use mr_bytes::{Value, ValueColumn};
 use mr_jobs::{GroupText, Job};
@@ -130,6 +131,18 @@ fn put_places(key: &[u8], values: Listed<'_>, out: &mut Vec<u8>) -> Result<(), A
         put_place(key, values.get(i), out)?;
     }
     Ok(())
+}
+
+/// Appends a file to the list of a group's files: behind a comma unless it is the first, and nothing
+/// if it is the last one again. Fails only for want of memory. Then part of it may be written.
+#[inline(always)]
+pub fn append_file(last: Option<u32>, file: u32, out: &mut Vec<u8>) -> Result<(), AllocError>
+    ensures ok { OnOk result (out.new.items ≡ out.old.items ++ file_text last file) }
+    ensures kept { take (vec_len out.old) out.new.items ≡ out.old.items }
+    ensures full { OnErr result
+        (vec_capacity out.old < vec_len out.old + length (file_text last file)) }
+{
+    put_behind(last, file, out)
 }
 
 /// For a job that counts, the number of values alone determines the text, so `append_total` is

@@ -12,11 +12,11 @@ use Rattle.mr_shards.specs.declared.merger.ShardText.{ShardText}
 use Rattle.mr_shards.specs.declared.merger.Window.{Window}
 use Rattle.mr_shards.specs.Cursors.{AreEnded, IsHeadOf, IsSum, are_ended, headed, left, on, with_waiting}
 use Rattle.mr_shards.specs.Lines.{groups_in}
-use Rattle.mr_shards.specs.Merged.{Group, texts}
+use Rattle.mr_shards.specs.Merged.{Group, written_texts}
 use Rattle.mr_shards.specs.Portions.{merged_groups, shifted_group}
 use Rattle.mr_shards.specs.Refused.{text_at}
 use Rattle.mr_shards.specs.Rounds.{AreCounted, AreFurther, AreHeads, AreOpen, AreWindows, AreWithin, Goes, HasDry, HasDryHead, IsAfter, IsGoing, IsMerged, IsOneLine, IsWithin, Merges, OneGoes, Reading, Standing, are_last, cuts_at, extended, no_cut, no_held, outputs_of, pairs_held, taken_on}
-use Rattle.mr_shards.specs.Views.{IsWaitingFor, waits}
+use Rattle.mr_shards.specs.Views.{WaitsFor}
 use Rattle.mr_shards.proofs.LineLaws.{output-of_all}
 use Rattle.mr_shards.proofs.HeadLemmas.{cursor-at}
 use Rattle.mr_shards.proofs.LoopLemmas.{kept-end, none-left}
@@ -162,7 +162,7 @@ none-within : (job : JobSpec) (os : List ShardText) (gss : List (List Group)) (w
 none-within job os gss w h key = omega (arith, h key)
 
 pub going-ended : (job : JobSpec) (os : List ShardText) (f : ℕ → List ℕ) (cs : List Cursor) (w : Option Group) (text : List ℕ) → AreEnded cs → IsGoing job os f cs w text
-    → IsGoing job os f cs None (text ++ texts job (with_waiting w []))
+    → IsGoing job os f cs None (text ++ written_texts job (with_waiting w []))
 going-ended job os f cs w text all g =
     let none : merged_groups (map (left job) (extended cs f)) ≡ [] = none-left job (extended cs f) (ended-extended cs f all) in
     record {
@@ -173,8 +173,8 @@ going-ended job os f cs w text all g =
         told = λ s.
             (let t = g.kept.told s in record {
               stands = t.stands;
-              text = ap (λ (gs : List Group). (text ++ texts job (with_waiting w [])) ++ texts job gs) none ∙ append-nil (text ++ texts job (with_waiting w []))
-                  ∙ ap (λ (gs : List Group). text ++ texts job (with_waiting w gs)) (sym none) ∙ t.text;
+              text = ap (λ (gs : List Group). (text ++ written_texts job (with_waiting w [])) ++ written_texts job gs) none ∙ append-nil (text ++ written_texts job (with_waiting w []))
+                  ∙ ap (λ (gs : List Group). text ++ written_texts job (with_waiting w gs)) (sym none) ∙ t.text;
               below = tt;
             });
       };
@@ -182,10 +182,10 @@ going-ended job os f cs w text all g =
     }
 
 pub merged-ended : (job : JobSpec) (os : List ShardText) (f : ℕ → List ℕ) (cs : List Cursor) (w : Option Group) (text : List ℕ) → AreEnded cs → IsGoing job os f cs w text
-    → IsMerged job os (text ++ texts job (with_waiting w []))
+    → IsMerged job os (text ++ written_texts job (with_waiting w []))
 merged-ended job os f cs w text all g =
     let e = kept-end job os (extended cs f) w text (ended-extended cs f all) g.kept in
-    record { stands = e.stands; text_is = e.text; whole = output-of_all job os (text ++ texts job (with_waiting w [])) e.text }
+    record { stands = e.stands; text_is = e.text; whole = output-of_all job os (text ++ written_texts job (with_waiting w [])) e.text }
 
 held-of : (cs : List Cursor) (i : ℕ) (d : Cursor) → i < length cs → pairs_held (helds cs) i ≡ (get_or cs i d).held.pairs
 held-of [] i d l = absurd (omega (arith, l))
@@ -214,7 +214,7 @@ like-after : (job : JobSpec) (rs : List Reading) (text : List ℕ) (m n : Standi
 like-after job rs text m n held waiting a =
     let x : Standing = record { held = m.held; waiting = m.waiting; text = n.text; cuts = n.cuts } in
     let same : x ≡ n = λ i. record { held = sym held i; waiting = sym waiting i; text = n.text; cuts = n.cuts } in
-    let here : IsAfter job rs text x = record { count = a.count; read = a.read; kind = a.kind; few = a.few; told = a.told } in
+    let here : IsAfter job rs text x = record { count = a.count; read = a.read; waiting = a.waiting; waits = a.waits; few = a.few; told = a.told } in
     subst (IsAfter job rs text) same here
 
 nothing-on : (rs : List Reading) (ws : List Window) → length ws ≡ length rs → taken_on (map no_cut ws) rs ≡ rs
@@ -248,13 +248,13 @@ open-heads job hs ws cs o = all-of (λ (c : Cursor). IsHeadOf job c c.head) cs (
 -- nothing waits where no line is left, and what waited is written
 abbrev pub Finishes : JobSpec → List Cursor → Option Group → List ℕ → Option Group → List ℕ → Type 0
 Finishes job ds w added next text =
-    ((are_ended ds ≡ true) × (next ≡ None) × (text ≡ added ++ texts job (with_waiting w []))) ⊎ ((are_ended ds ≡ false) × (next ≡ w) × (text ≡ added))
+    ((are_ended ds ≡ true) × (next ≡ None) × (text ≡ added ++ written_texts job (with_waiting w []))) ⊎ ((are_ended ds ≡ false) × (next ≡ w) × (text ≡ added))
 
 finish-going : (job : JobSpec) (os : List ShardText) (f : ℕ → List ℕ) (ds : List Cursor) (w : Option Group) (added : List ℕ) (next : Option Group) (t text : List ℕ) → Finishes job ds w added next t
     → IsGoing job os f ds w (text ++ added) → IsGoing job os f ds next (text ++ t)
 finish-going job os f ds w added next t text (inl e) g =
     subst (λ (o : Option Group). IsGoing job os f ds o (text ++ t)) (sym e.1)
-    (subst (IsGoing job os f ds None) (append_assoc text added (texts job (with_waiting w [])) ∙ ap (λ (x : List ℕ). text ++ x) (sym e.2))
+    (subst (IsGoing job os f ds None) (append_assoc text added (written_texts job (with_waiting w [])) ∙ ap (λ (x : List ℕ). text ++ x) (sym e.2))
     (going-ended job os f ds w (text ++ added) (ended-all ds e.0) g))
 finish-going job os f ds w added next t text (inr e) g =
     subst (λ (o : Option Group). IsGoing job os f ds o (text ++ t)) (sym e.1) (subst (λ (x : List ℕ). IsGoing job os f ds w (text ++ x)) (sym e.2) g)
@@ -265,14 +265,18 @@ whole-end : (job : JobSpec) (ws : List Window) (cs ds : List Cursor) (os : List 
 whole-end job ws cs ds os f w added next t text hs bytes further last (inr dry) held finish count g = absurd (cc (sym last ∙ dry-more ws cs ds bytes further dry))
 whole-end job ws cs ds os f w added next t text hs bytes further last (inl all) held (inr e) count g = absurd (cc (sym (ended-true ds all) ∙ e.0))
 whole-end job ws cs ds os f w added next t text hs bytes further last (inl all) held (inl e) count g = (
-  subst (IsMerged job os) (append_assoc text added (texts job (with_waiting w [])) ∙ ap (λ (x : List ℕ). text ++ x) (sym e.2)) (merged-ended job os f ds w (text ++ added) all g),
+  subst (IsMerged job os) (append_assoc text added (written_texts job (with_waiting w [])) ∙ ap (λ (x : List ℕ). text ++ x) (sym e.2)) (merged-ended job os f ds w (text ++ added) all g),
   subst (AreCounted job os) (sym held) (counted-ended job os f ds w (text ++ added) all count g),
 )
 
-pub merges : (job : JobSpec) (ws : List Window) (m n : Standing) (cs ds : List Cursor) (w : Option Group) (added : List ℕ) → AreOpen job m.held ws cs → length m.held ≡ length ws → AreFurther cs ds
-    → AreHeads job ds → (IsWaitingFor job m.waiting → Goes job cs ds (waits m.waiting) w added) → (IsWaitingFor job m.waiting → IsWaitingFor job n.waiting) → n.held ≡ helds ds → n.cuts ≡ cuts_at ws ds → AreEnded ds ⊎ HasDryHead ds
-    → (IsWaitingFor job m.waiting → Finishes job ds w added (waits n.waiting) n.text) → Merges job ws m n
-merges job ws m n cs ds w added o count further heads goes kind held cuts ends finish =
+-- whatever waits, the lines are taken, and the end is as it should
+abbrev pub Passes : JobSpec → List Cursor → List Cursor → List ℕ → Standing → Standing → Type 0
+Passes job cs ds added m n = (w : Option Group) → WaitsFor job m.waiting w
+    → (mid : Option Group) × (next : Option Group) × Goes job cs ds w mid added × WaitsFor job n.waiting next × Finishes job ds mid added next n.text
+
+pub merges : (job : JobSpec) (ws : List Window) (m n : Standing) (cs ds : List Cursor) (added : List ℕ) → AreOpen job m.held ws cs → length m.held ≡ length ws → AreFurther cs ds
+    → AreHeads job ds → Passes job cs ds added m n → n.held ≡ helds ds → n.cuts ≡ cuts_at ws ds → AreEnded ds ⊎ HasDryHead ds → Merges job ws m n
+merges job ws m n cs ds added o count further heads passes held cuts ends =
     let bytes : HaveBytes ws cs = have-bytes job m.held ws cs o in
     let many : length ds ≡ length ws = sym (further-count cs ds further) ∙ o.0 in
     let outputs : (rs : List Reading) → AreWindows rs ws → outputs_of (taken_on n.cuts rs) ≡ outputs_of rs =
@@ -280,16 +284,20 @@ merges job ws m n cs ds w added o count further heads goes kind held cuts ends f
     let texts_on : (rs : List Reading) (text : List ℕ) (v : AreWindows rs ws) → IsAfter job rs text m → AreTexts (taken_on n.cuts rs) ds (mores rs ws v) =
     λ rs text v a. subst (λ (ns : List ℕ). AreTexts (taken_on ns rs) ds (mores rs ws v)) (sym cuts)
     (taken-texts rs ws cs ds (mores rs ws v) (going-opened job rs ws cs text m v o count a).1 bytes further) in
-    let going : (rs : List Reading) (text : List ℕ) (v : AreWindows rs ws) → IsAfter job rs text m → IsGoing job (outputs_of rs) (mores rs ws v) ds w (text ++ added) =
-    λ rs text v a. goes a.kind (outputs_of rs) (mores rs ws v) text (going-opened job rs ws cs text m v o count a).0 in
-    let finished : (rs : List Reading) (text : List ℕ) (v : AreWindows rs ws) → IsAfter job rs text m → IsGoing job (outputs_of rs) (mores rs ws v) ds (waits n.waiting) (text ++ n.text) =
-    λ rs text v a. finish-going job (outputs_of rs) (mores rs ws v) ds w added (waits n.waiting) n.text text (finish a.kind) (going rs text v a) in
+    let going : (rs : List Reading) (text : List ℕ) (v : AreWindows rs ws) (a : IsAfter job rs text m)
+    → IsGoing job (outputs_of rs) (mores rs ws v) ds (passes a.waiting a.waits).0 (text ++ added) =
+    λ rs text v a. (passes a.waiting a.waits).2 (outputs_of rs) (mores rs ws v) text (going-opened job rs ws cs text m v o count a).0 in
+    let finished : (rs : List Reading) (text : List ℕ) (v : AreWindows rs ws) (a : IsAfter job rs text m)
+    → IsGoing job (outputs_of rs) (mores rs ws v) ds (passes a.waiting a.waits).1 (text ++ n.text) =
+    λ rs text v a. (let p = passes a.waiting a.waits in finish-going job (outputs_of rs) (mores rs ws v) ds p.0 added p.1 n.text text p.4 (going rs text v a)) in
     record {
       within = subst (λ (ns : List ℕ). AreWithin ns ws) (sym cuts) (cuts-within ws ds many);
       after = λ rs text a v.
-          after-going job (taken_on n.cuts rs) ds (mores rs ws v) (text ++ n.text) n (texts_on rs text v a) held (kind a.kind)
-          (subst (λ (os : List ShardText). IsGoing job os (mores rs ws v) ds (waits n.waiting) (text ++ n.text)) (sym (outputs rs v)) (finished rs text v a));
+          (let p = passes a.waiting a.waits in
+          after-going job (taken_on n.cuts rs) ds (mores rs ws v) (text ++ n.text) n p.1 (texts_on rs text v a) held p.3
+          (subst (λ (os : List ShardText). IsGoing job os (mores rs ws v) ds p.1 (text ++ n.text)) (sym (outputs rs v)) (finished rs text v a)));
       whole = λ rs text a v last.
-          whole-end job ws cs ds (outputs_of rs) (mores rs ws v) w added (waits n.waiting) n.text text n.held bytes further last ends held (finish a.kind)
-          (many ∙ sym (windows-count rs ws v) ∙ sym (length-map rs (λ (r : Reading). r.output))) (going rs text v a);
+          (let p = passes a.waiting a.waits in
+          whole-end job ws cs ds (outputs_of rs) (mores rs ws v) p.0 added p.1 n.text text n.held bytes further last ends held p.4
+          (many ∙ sym (windows-count rs ws v) ∙ sym (length-map rs (λ (r : Reading). r.output))) (going rs text v a));
     }

@@ -12,7 +12,10 @@ use Rattle.std.specs.declared.cmp.Ordering.TheVariants.{Less}
 use Rattle.mr_bytes.specs.Lists.{Has, Rises}
 use Rattle.mr_bytes.proofs.ListLaws.{Has-all}
 use Rattle.mr_reduce.specs.Text.{comma_separated}
+use Rattle.mr_jobs.specs.declared.job.GroupText.TheVariants.{Files}
+use Rattle.mr_reduce.specs.Writing.{file_text, last_file, values_text}
 use Rattle.mr_reduce.proofs.FileLemmas.{comma}
+use Rattle.mr_reduce.proofs.WritingLemmas.{after-last, text-last}
 use Rattle.mr_sequential.proofs.NameLaws.{less}
 use Rattle.mr_shards.specs.Lines.{fields, longer, numbers_in, places_in}
 use Rattle.mr_bytes.specs.Cut.{Lacks}
@@ -307,22 +310,32 @@ pub placed-last : (s : Shift) (xs : List ℕ) (x : ℕ) → map (shifted_value s
 placed-last s [] x = refl
 placed-last s (y ∷ ys) x = ap (λ l. shifted_value s (At y 0) ∷ l) (placed-last s ys x)
 
--- one place more
-pub places-more : (s : Shift) (old mid new : List Value) (done : List ℕ) (n : ℕ) (v : Value) → mid ≡ old ++ map (shifted_value s) (places_in done) → v ≡ shifted_value s (At n 0)
-    → new ≡ mid ++ v ∷ [] → new ≡ old ++ map (shifted_value s) (places_in (done ++ n ∷ []))
-places-more s old mid new done n v was is e =
-    e ∙ (λ i. was i ++ is i ∷ []) ∙ append_assoc old (map (shifted_value s) (places_in done)) (shifted_value s (At n 0) ∷ [])
-    ∙ ap (λ l. old ++ l) (sym (placed-last s done n))
+-- ---- files that are written
+
+-- the text and its last file, behind so many numbers of a list
+pub record IsWritten (s : Shift) (before : Option ℕ) (old : List ℕ) (done : List ℕ) (end : Option ℕ) (new : List ℕ) : Type 0 where
+  pub text : new ≡ old ++ values_text Files [] before (map (shifted_value s) (places_in done))
+  pub end_is : end ≡ last_file before (map (shifted_value s) (places_in done))
+
+pub written-more : (s : Shift) (before : Option ℕ) (old mid new done : List ℕ) (end : Option ℕ) (n file : ℕ) → IsWritten s before old done end mid → file ≡ s.files + n
+    → new ≡ mid ++ file_text end file → IsWritten s before old (done ++ n ∷ []) (Some file) new
+written-more s before old mid new done end n file was is e =
+    let vs : List Value = map (shifted_value s) (places_in done) in
+    let v : Value = shifted_value s (At n 0) in
+    let more : values_text Files [] before (vs ++ v ∷ []) ≡ values_text Files [] before vs ++ file_text (last_file before vs) (s.files + n) = text-last Files [] before vs v in
+    record {
+      text =
+          e ∙ (λ i. was.text i ++ file_text (was.end_is i) (is i)) ∙ append_assoc old (values_text Files [] before vs) (file_text (last_file before vs) (s.files + n))
+          ∙ ap (λ l. old ++ l) (sym more) ∙ ap (λ us. old ++ values_text Files [] before us) (sym (placed-last s done n));
+      end_is = ap Some is ∙ sym (after-last before vs v) ∙ ap (last_file before) (sym (placed-last s done n));
+    }
 
 -- the number that was cut off is the one that comes next
 pub same-next : (text : List ℕ) (n m : ℕ) (more rest : List (List ℕ)) → fields text ≡ decimal n ∷ more → fields text ≡ decimal m ∷ rest → n < 2 ^ 32 → m < 2 ^ 32 → n ≡ m
 same-next text n m more rest e e' small small' =
     decimal_injective n m (omega (arith, small)) (omega (arith, small')) (let same : decimal n ∷ more ≡ decimal m ∷ rest = sym e ∙ e' in cc same)
 
--- all places are those of the list
-pub places-all : (s : Shift) (told : List ℕ) (left : Option (Bor (List ℕ))) (before : Option ℕ) (done : List ℕ) (old new : List Value) → left ≡ None
-    → AreReadSo told left before done → new ≡ old ++ map (shifted_value s) (places_in done) → new ≡ old ++ map (shifted_value s) (places_in (numbers_in told))
-places-all s told left before done old new none was e =
-    let all = fields-all told left before done none was in
-    let same : numbers_in told ≡ done = ap (map (digits_value 10)) all ∙ values-read done (all-weaker (λ n. n < 2 ^ 32) (λ n. n < 2 ^ 64) done (λ n h. omega (arith, h)) was.below) in
-    e ∙ ap (λ ns. old ++ map (shifted_value s) (places_in ns)) (sym same)
+-- the numbers that were read are those of the list
+pub numbers-all : (told : List ℕ) (left : Option (Bor (List ℕ))) (before : Option ℕ) (done : List ℕ) → left ≡ None → AreReadSo told left before done → numbers_in told ≡ done
+numbers-all told left before done none was =
+    ap (map (digits_value 10)) (fields-all told left before done none was) ∙ values-read done (all-weaker (λ n. n < 2 ^ 32) (λ n. n < 2 ^ 64) done (λ n h. omega (arith, h)) was.below)

@@ -10,16 +10,15 @@ use Rattle.mr_shards.specs.declared.merger.ShardText.{ShardText}
 use Rattle.mr_shards.specs.declared.shift.ShardFiles.{ShardFiles}
 use Rattle.mr_shards.specs.Merged.{Group}
 use Rattle.mr_shards.specs.Portions.{Shift, behind, no_shift, past_shard}
-use Rattle.mr_jobs.specs.JobSpec.{WordCount, LinesWith, Resources, InvertedIndex, NthField}
 use Rattle.mr_shards.specs.Cursors.{IsSum, all_pairs}
 use Rattle.mr_shards.specs.Lines.{groups_in}
-use Rattle.mr_shards.specs.Merged.{texts}
+use Rattle.mr_shards.specs.Merged.{written_texts}
 use Rattle.mr_shards.specs.Outputs.{parts_in}
 use Rattle.mr_shards.specs.Portions.{merged_groups, shifted_group, shifted_parts}
 use Rattle.mr_shards.specs.Refused.{Blames, IsReadTo, IsRest, IsShardText, PassesNot, TellsFiles, count_at, shift_from, text_at}
-use Rattle.mr_shards.specs.Rounds.{AreFresh, AreStanding, AreWindows, are_last, whole_window, IsAfter, IsReadUpTo, IsTooFar, IsWithin, Reading, Standing, Told, held_for, held_from, outputs_of, rests, shift_for}
+use Rattle.mr_shards.specs.Rounds.{AreFresh, AreStanding, AreWindows, are_last, whole_window, IsAfter, IsReadUpTo, IsTooFar, IsWithin, Reading, Standing, held_for, held_from, outputs_of, rests, shift_for}
 use Rattle.mr_shards.specs.Rounds.{behind as behind_of}
-use Rattle.mr_shards.specs.Views.{IsWaitingFor, nothing_waits, waits}
+use Rattle.mr_shards.specs.Views.{Waits, WaitsFor, nothing_waits}
 use Rattle.mr_shards.specs.declared.merger.MergeFault.TheVariants.{OutOfMemory}
 use Rattle.mr_shards.proofs.RefusedLemmas.{passes-not, read-none}
 use Rattle.mr_shards.proofs.ShiftLemmas.{merged_at_once}
@@ -56,13 +55,6 @@ fresh-count [] [] a = refl
 fresh-count [] (r ∷ rs) a = absurd a
 fresh-count (f ∷ fs) [] a = absurd a
 fresh-count (f ∷ fs) (r ∷ rs) a = ap suc (fresh-count fs rs a.2)
-
-pub none-waits : (job : JobSpec) → IsWaitingFor job nothing_waits
-none-waits (WordCount keep_case) = refl
-none-waits (LinesWith literal fold) = refl
-none-waits Resources = refl
-none-waits (NthField separator number) = refl
-none-waits (InvertedIndex keep_case) = refl
 
 -- a shard of which nothing is taken
 record IsFreshAt (s : Shift) (os : List ShardText) (i : ℕ) (h : Held) (r : Reading) : Type 0 where
@@ -122,7 +114,6 @@ pub fresh-after : (job : JobSpec) (fs : List ShardFiles) (rs : List Reading) (m 
 fresh-after job fs rs m a held none =
     let os : List ShardText = outputs_of rs in
     let same : shifted_parts no_shift (parts_in job os) ≡ rests job m.held rs = sym (fresh-rests job no_shift fs rs a) ∙ ap (λ (hs : List Held). rests job hs rs) (sym held) in
-    let waits_none : None ≡ waits m.waiting = ap waits (sym none) in
     record {
       count = ap length held ∙ held-count no_shift fs ∙ fresh-count fs rs a;
       read = λ i h r l.
@@ -140,15 +131,14 @@ fresh-after job fs rs m a held none =
             pairs = subst (λ (o : Option ℕ). IsSum job o (groups_in job (behind_of q)) (groups_in job (text_at os i))) (sym x.pairs)
                 (subst (λ (t : List ℕ). 0 + all_pairs job (groups_in job t) ≡ all_pairs job (groups_in job (text_at os i))) (sym whole) (omega arith));
           }));
-      kind = subst (IsWaitingFor job) (sym none) (none-waits job);
-      few = subst (λ (w : Option Group). IsWithin job os (rests job m.held rs) w) waits_none
-          (subst (λ (gss : List (List Group)). IsWithin job os gss None) same (within-first job os (shifted_parts no_shift (parts_in job os)) refl));
-      told = λ s.
-          subst (λ (w : Option Group). Told job os (rests job m.held rs) w []) waits_none (record {
-            stands = fresh-stand job no_shift fs rs a (subst (λ (hs : List Held). AreStanding job hs rs) held s);
-            text = ap (λ (gss : List (List Group)). texts job (merged_groups gss)) (sym same) ∙ ap (texts job) (sym (merged_at_once (parts_in job os)));
-            below = tt;
-          });
+      waiting = None;
+      waits = subst (λ (w : Waits). WaitsFor job w None) (sym none) refl;
+      few = subst (λ (gss : List (List Group)). IsWithin job os gss None) same (within-first job os (shifted_parts no_shift (parts_in job os)) refl);
+      told = λ s. record {
+        stands = fresh-stand job no_shift fs rs a (subst (λ (hs : List Held). AreStanding job hs rs) held s);
+        text = ap (λ (gss : List (List Group)). written_texts job (merged_groups gss)) (sym same) ∙ ap (written_texts job) (sym (merged_at_once (parts_in job os)));
+        below = tt;
+      };
     }
 
 -- ---- places that don't move so far

@@ -46,3 +46,5 @@ pub mod FieldLemmas
 pub mod GapLemmas
 pub mod PastLemmas
 pub mod DigestLemmas
+pub mod RisingLemmas
+pub mod WaitingLemmas

@@ -4,8 +4,7 @@ use Rattle.std.proofs.lemmas.List.{take_all, length-drop}
 use Rattle.memchr.specs.Find.{Nowhere, Passes, is_byte}
 use Rattle.std.proofs.Common.{◌^◌, Bool, true, false, map, replicate}
 use Rattle.std.specs.Prelude.{decimal}
-use Rattle.std.proofs.lemmas.List.{replicate-append-replicate, length-replicate, append-nil}
-use Rattle.mr_bytes.specs.declared.Value.{Value}
+use Rattle.std.proofs.lemmas.List.{length-replicate, append-nil}
 use Rattle.mr_bytes.specs.declared.Value.TheVariants.{One, At}
 use Rattle.mr_jobs.specs.JobSpec.{JobSpec, WordCount, LinesWith, Resources, InvertedIndex, NthField, counts, has_lines}
 use Rattle.std.specs.Ordering.{nat_cmp}
@@ -25,7 +24,7 @@ use Rattle.mr_shards.specs.Merged.{group_text}
 use Rattle.std.proofs.Common.{not}
 use Rattle.mr_sequential.proofs.KeyLaws.{bytes_eq-is}
 use Rattle.std.specs.Str.{bytes_eq}
-use Rattle.mr_shards.specs.Views.{BeginsWithLine, IsListTo, IsParsed, IsFor, IsUnshifted, IsWaitingFor, values_of}
+use Rattle.mr_shards.specs.Views.{BeginsWithLine, IsListTo, IsParsed, IsFor, IsUnshifted, values_of}
 use Rattle.mr_shards.specs.declared.line.Tally.{Tally}
 use Rattle.mr_shards.specs.declared.line.Tally.TheVariants.{Total, Place, Files}
 use Rattle.mr_shards.proofs.ReadingLemmas.{files-are, index-line, line-text, numbers_read, separated-lack, total-read, place-read, total-first, place-first, value-of, decimal-lacks, Lacks-append, before-first, after-first, after-last}
@@ -320,22 +319,3 @@ begun-told job text line rest key told h e clear last whole =
 pub begun : (job : JobSpec) (t : Tally) (key told : List ℕ) → Lacks 10 key → IsParsed job t told → Lacks 10 (key ++ 9 ∷ told)
 begun job t key told clear is =
     Lacks-append 10 key (9 ∷ told) clear (λ e. omega (arith, e), told-lacks job t told 10 (λ r. omega (arith, r.0)) (λ e. omega (arith, e)) (λ e. omega (arith, e)) is)
-
--- a total that is added to the one that waits
-pub total-added : (job : JobSpec) (t : Tally) (some : Bool) (key : List ℕ) (m n total : ℕ) (places : List Value) → t ≡ Total n → IsFor job t → IsWaitingFor job (record { some = some; key = key; total = m; places = places })
-    → total ≡ m + n → replicate total One ++ places ≡ (replicate m One ++ places) ++ values_of t
-total-added job t some key m n total places is kind waits sum = by job (subst (IsFor job) is kind) waits
-  where
-    counted : places ≡ [] → replicate total One ++ places ≡ (replicate m One ++ places) ++ values_of t
-    counted none =
-        ap (λ (ps : List Value). replicate total One ++ ps) none ∙ append-nil (replicate total One) ∙ ap (λ k. replicate k One) sum
-        ∙ sym (replicate-append-replicate m n One)
-        ∙ (λ i. sym (append-nil (replicate m One)) i ++ values_of (sym is i)) ∙ ap (λ (ps : List Value). (replicate m One ++ ps) ++ values_of t) (sym none)
-
-    by : (j : JobSpec) → IsFor j (Total n) → IsWaitingFor j (record { some = some; key = key; total = m; places = places })
-        → replicate total One ++ places ≡ (replicate m One ++ places) ++ values_of t
-    by (WordCount keep_case) k w = counted w
-    by (LinesWith literal fold) k w = absurd k
-    by Resources k w = counted w
-    by (NthField separator number) k w = counted w
-    by (InvertedIndex keep_case) k w = absurd k

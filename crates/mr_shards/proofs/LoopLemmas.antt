@@ -16,7 +16,7 @@ use Rattle.mr_sequential.proofs.SourceLemmas.{flat_map-append}
 use Rattle.mr_shards.specs.declared.cursor.Cursor.{Cursor}
 use Rattle.mr_shards.specs.declared.line.Line.{Line}
 use Rattle.mr_shards.specs.declared.merger.ShardText.{ShardText}
-use Rattle.mr_shards.specs.Merged.{Group, group_text, texts, joined, with_group, merged}
+use Rattle.mr_shards.specs.Merged.{Group, group_text, texts, joined, with_group, merged, written, written_texts}
 use Rattle.mr_shards.specs.Lines.{groups_in, group_in, joins, NoneFalls}
 use Rattle.mr_shards.specs.Refused.{AreInFiles, AreRead, IsShardText}
 use Rattle.mr_shards.specs.Views.{group_of}
@@ -26,6 +26,7 @@ use Rattle.mr_shards.specs.Rounds.{IsBelow, Kept}
 use Rattle.mr_shards.proofs.MergedLaws.{keys, with_group-keys}
 use Rattle.mr_shards.proofs.MergeLemmas.{merged_groups-rise, with_group-joined, in_front}
 use Rattle.mr_shards.proofs.ReadingLemmas.{lines-none}
+use Rattle.mr_shards.proofs.RisingLemmas.{written-all}
 use Rattle.mr_shards.proofs.TotalLemmas.{within-step}
 use Rattle.mr_shards.specs.Portions.{behind, merged_groups, merged_portions, shifted_group}
 use Rattle.mr_shards.proofs.StepLemmas.{IsLeast, NotLess, NoneBefore, less-not, not_less-differs, turned, IsBest, Step, step-kinds, step-stands, step-pull, step-behind, step-at, merged-none_before}
@@ -39,21 +40,21 @@ joined-text literal fold g h e =
 
 -- places are written one behind the other, whatever their groups
 front-places : (literal : List ℕ) (fold : Bool) (g : Group) (gs : List Group) → AllByRecursion (λ k. NotLess k g.key) (keys gs)
-    → texts (LinesWith literal fold) (with_group g gs) ≡ group_text (LinesWith literal fold) g ++ texts (LinesWith literal fold) gs
+    → written_texts (LinesWith literal fold) (with_group g gs) ≡ written (LinesWith literal fold) g ++ written_texts (LinesWith literal fold) gs
 front-places literal fold g [] all = refl
 front-places literal fold g (h ∷ hs) all = by (key_order g.key h.key) refl
   where
     by : (o : Ordering) → key_order g.key h.key ≡ o
-        → texts (LinesWith literal fold) (match_ordering o (g ∷ h ∷ hs) (joined g h ∷ hs) (h ∷ with_group g hs))
-        ≡ group_text (LinesWith literal fold) g ++ (group_text (LinesWith literal fold) h ++ texts (LinesWith literal fold) hs)
+        → written_texts (LinesWith literal fold) (match_ordering o (g ∷ h ∷ hs) (joined g h ∷ hs) (h ∷ with_group g hs))
+        ≡ written (LinesWith literal fold) g ++ (written (LinesWith literal fold) h ++ written_texts (LinesWith literal fold) hs)
     by Less e = refl
     by Equal e =
-        ap (λ (l : List ℕ). l ++ texts (LinesWith literal fold) hs) (joined-text literal fold g h (key_tie g.key h.key e))
-        ∙ append_assoc (group_text (LinesWith literal fold) g) (group_text (LinesWith literal fold) h) (texts (LinesWith literal fold) hs)
+        ap (λ (l : List ℕ). l ++ written_texts (LinesWith literal fold) hs) (joined-text literal fold g h (key_tie g.key h.key e))
+        ∙ append_assoc (written (LinesWith literal fold) g) (written (LinesWith literal fold) h) (written_texts (LinesWith literal fold) hs)
     by Greater e = absurd (all.0 (turned g.key h.key e))
 
 front-place : (job : JobSpec) (g : Group) (gs : List Group) → joins job ≡ false → AllByRecursion (λ k. NotLess k g.key) (keys gs)
-    → texts job (with_group g gs) ≡ group_text job g ++ texts job gs
+    → written_texts job (with_group g gs) ≡ written job g ++ written_texts job gs
 front-place (WordCount keep_case) g gs lines all = absurd (cc lines)
 front-place (LinesWith literal fold) g gs lines all = front-places literal fold g gs all
 front-place Resources g gs lines all = absurd (cc lines)
@@ -82,31 +83,31 @@ less-back w q k f less = by (key_order k q) refl
 module _ (job : JobSpec) (g next : Group) (gs : List Group) (old new : List ℕ) where
   pub goes-text : (waiting : Option Group) → Goes job waiting g next old new
       → Rises key_order (keys gs) → AllByRecursion (λ k. NotLess k g.key) (keys gs) → ((w : Group) → waiting ≡ Some w → NotLess g.key w.key)
-      → new ++ texts job (with_group next gs) ≡ old ++ texts job (with_waiting waiting (with_group g gs))
+      → new ++ written_texts job (with_group next gs) ≡ old ++ written_texts job (with_waiting waiting (with_group g gs))
   goes-text None h rise behind below =
-      λ i. h.1 i ++ texts job (with_group (h.0 i) gs)
+      λ i. h.1 i ++ written_texts job (with_group (h.0 i) gs)
   goes-text (Some w) (inl h) rise behind below =
-      ap (λ (o : List ℕ). o ++ texts job (with_group next gs)) h.2
-      ∙ ap (λ (q : Group). old ++ texts job (with_group q gs)) h.1
-      ∙ ap (λ (hs : List Group). old ++ texts job hs) (sym (with_group-joined w g gs h.0 rise))
+      ap (λ (o : List ℕ). o ++ written_texts job (with_group next gs)) h.2
+      ∙ ap (λ (q : Group). old ++ written_texts job (with_group q gs)) h.1
+      ∙ ap (λ (hs : List Group). old ++ written_texts job hs) (sym (with_group-joined w g gs h.0 rise))
   goes-text (Some w) (inr h) rise behind below =
       let here : NotLess g.key w.key = below w refl in
       let all : AllByRecursion (λ k. NotLess k w.key) (keys (with_group g gs)) =
       with_group-behind w.key g gs (λ k. NotLess k w.key) here
       (all_from_Has (λ k. NotLess k w.key) (keys gs) (λ q a. (let f : NotLess q g.key = Has-all (λ k. NotLess k g.key) (keys gs) q behind a in
       λ less. here (less-back w.key q g.key f less)))) in
-      let wrote : texts job (with_group w (with_group g gs)) ≡ group_text job w ++ texts job (with_group g gs) =
+      let wrote : written_texts job (with_group w (with_group g gs)) ≡ written job w ++ written_texts job (with_group g gs) =
       elim h.2 [
         | inl ne ↦
             (let less : key_order w.key g.key ≡ Less = not_less-differs g.key w.key here ne in
-            ap (texts job) (in_front w (with_group g gs)
+            ap (written_texts job) (in_front w (with_group g gs)
             (with_group-behind w.key g gs (λ k. key_order w.key k ≡ Less) less
             (all_from_Has (λ k. key_order w.key k ≡ Less) (keys gs) (λ q a. less-not w.key g.key q less (Has-all (λ k. NotLess k g.key) (keys gs) q behind a))))))
         | inr lines ↦ front-place job w (with_group g gs) lines all
       ] in
-      ap (λ (o : List ℕ). o ++ texts job (with_group next gs)) h.1
-      ∙ append_assoc old (group_text job w) (texts job (with_group next gs))
-      ∙ ap (λ (q : Group). old ++ (group_text job w ++ texts job (with_group q gs))) h.0
+      ap (λ (o : List ℕ). o ++ written_texts job (with_group next gs)) h.1
+      ∙ append_assoc old (written job w) (written_texts job (with_group next gs))
+      ∙ ap (λ (q : Group). old ++ (written job w ++ written_texts job (with_group q gs))) h.0
       ∙ ap (λ (t : List ℕ). old ++ t) (sym wrote)
 
   pub goes-key : (waiting : Option Group) → Goes job waiting g next old new → next.key ≡ g.key
@@ -118,7 +119,7 @@ module _ (job : JobSpec) (g next : Group) (gs : List Group) (old new : List ℕ)
 pub goes-front : (job : JobSpec) (waiting : Option Group) (g next : Group) (text old new : List ℕ) → Goes job waiting g next old new → Goes job waiting g next (text ++ old) (text ++ new)
 goes-front job None g next text old new h = (h.0, ap (λ (o : List ℕ). text ++ o) h.1)
 goes-front job (Some w) g next text old new (inl h) = inl (h.0, h.1, ap (λ (o : List ℕ). text ++ o) h.2)
-goes-front job (Some w) g next text old new (inr h) = inr (h.0, ap (λ (o : List ℕ). text ++ o) h.1 ∙ sym (append_assoc text old (group_text job w)), h.2)
+goes-front job (Some w) g next text old new (inr h) = inr (h.0, ap (λ (o : List ℕ). text ++ o) h.1 ∙ sym (append_assoc text old (written job w)), h.2)
 
 -- ---- what the loop keeps
 
@@ -140,7 +141,7 @@ kept-step job outputs old new waiting line next out out' s read g k =
             stands = t.stands;
             text = goes-text job one next (merged_groups M) out out' waiting g (merged_groups-rise M) (merged-none_before line.key.now M behind)
                 (λ w e. step-at job old new line s w.key (below-some waiting (map (left job) old) w e t.below))
-                ∙ ap (λ (gs : List Group). out ++ texts job (with_waiting waiting gs)) (sym (step-pull job old new line s st)) ∙ t.text;
+                ∙ ap (λ (gs : List Group). out ++ written_texts job (with_waiting waiting gs)) (sym (step-pull job old new line s st)) ∙ t.text;
             below = subst (λ (q : List ℕ). AllByRecursion (NoneBefore q) M) (sym (goes-key job one next (merged_groups M) out out' waiting g)) behind;
           });
     }
@@ -175,12 +176,12 @@ none-left job (c ∷ cs) ends =
 
 pub record Ends (job : JobSpec) (outputs : List ShardText) (waiting : Option Group) (out : List ℕ) : Type 0 where
   pub stands : AllByRecursion (IsShardText job) outputs
-  pub text : out ++ texts job (with_waiting waiting []) ≡ texts job (merged_portions (parts_in job outputs))
+  pub text : out ++ written_texts job (with_waiting waiting []) ≡ texts job (merged_portions (parts_in job outputs))
 
 pub kept-end : (job : JobSpec) (outputs : List ShardText) (cs : List Cursor) (waiting : Option Group) (out : List ℕ) → IsBest cs None → Kept job outputs cs waiting out → Ends job outputs waiting out
 kept-end job outputs cs waiting out ends k =
     let t = k.told (all-stand job cs ends k.kinds) in
-    record { stands = t.stands; text = ap (λ (gs : List Group). out ++ texts job (with_waiting waiting gs)) (sym (none-left job cs ends)) ∙ t.text }
+    record { stands = t.stands; text = ap (λ (gs : List Group). out ++ written_texts job (with_waiting waiting gs)) (sym (none-left job cs ends)) ∙ t.text ∙ written-all job outputs t.stands }
 
 pub least-within : (cs : List Cursor) (at : ℕ) (line : Line) → IsLeast cs at line → at < length cs
 least-within cs at line b = omega (arith, ap length b.is, length-append b.front (b.one ∷ b.back), b.place)

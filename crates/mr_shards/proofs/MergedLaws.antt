@@ -119,7 +119,7 @@ merged-rise gs hs r = subst (Rises key_order) (sym (merged-keys gs hs)) (with_ke
 abbrev pub told : (List ℕ → List Value) → List ℕ → Group
 told f k = record { key = k; values = f k }
 
-values-before : (k : List ℕ) (gs : List Group) → AllByRecursion (λ j. key_order k j ≡ Less) (keys gs) → values_at gs k ≡ []
+pub values-before : (k : List ℕ) (gs : List Group) → AllByRecursion (λ j. key_order k j ≡ Less) (keys gs) → values_at gs k ≡ []
 values-before k [] all = refl
 values-before k (g ∷ gs) all =
     let other : bytes_eq g.key k ≡ false =

@@ -251,7 +251,7 @@ shift-files s (o ∷ os) =
     omega (arith, shift-files (behind s (past_shard o.files)) os, sum_by-cons (λ (q : ShardText). (past_shard q.files).files) o os)
 
 -- a file of a shard, behind those before it, is among all
-own-file : (f : ShardFiles) (file : ℕ) → file < f.count → file ≤ (past_shard f).files
+pub own-file : (f : ShardFiles) (file : ℕ) → file < f.count → file ≤ (past_shard f).files
 own-file f file less = by f.cut
   where
     by : (c : Option ℕ) → file ≤ (past_cut f.count c).files

@@ -20,7 +20,7 @@ use Rattle.mr_shards.specs.Outputs.{Stands}
 use Rattle.mr_shards.specs.Portions.{Shift, shifted_group}
 use Rattle.mr_shards.specs.Refused.{AreRead, Blames, Follows, IsReadAt, IsReadOf, IsReadTo, IsRest, IsRestOf, TakesNot, TellsFiles, last_key, text_at}
 use Rattle.mr_shards.specs.Rounds.{AreFurther, AreHeads, AreOpen, AreStanding, AreWindows, HasDry, HasDryHead, IsAfter, IsAt, IsFurther, IsGoing, IsReadUpTo, IsStanding, IsWindow, IsWithin, Reading, Standing, Told, behind, extended, no_held, output_with, outputs_of, rests}
-use Rattle.mr_shards.specs.Views.{IsFor, IsWaitingFor, group_of, waits}
+use Rattle.mr_shards.specs.Views.{IsFor, WaitsFor, group_of}
 use Rattle.mr_shards.proofs.HeadLemmas.{cursor-at, sum-here, sum-moved, passed-before, passed-count, passed-lines, sum-behind, told-pairs}
 use Rattle.mr_shards.proofs.LoopLemmas.{goes-front, kept-step}
 use Rattle.mr_shards.proofs.FrontLemmas.{all-at}
@@ -264,9 +264,9 @@ stands-rests job (r ∷ rs) (c ∷ cs) f t a stands all =
 
 -- ---- a merge between rounds
 
-pub after-going : (job : JobSpec) (rs : List Reading) (cs : List Cursor) (f : ℕ → List ℕ) (text : List ℕ) (m : Standing) → AreTexts rs cs f → m.held ≡ helds cs → IsWaitingFor job m.waiting
-    → IsGoing job (outputs_of rs) f cs (waits m.waiting) text → IsAfter job rs text m
-after-going job rs cs f text m t held kind g =
+pub after-going : (job : JobSpec) (rs : List Reading) (cs : List Cursor) (f : ℕ → List ℕ) (text : List ℕ) (m : Standing) (w : Option Group) → AreTexts rs cs f → m.held ≡ helds cs → WaitsFor job m.waiting w
+    → IsGoing job (outputs_of rs) f cs w text → IsAfter job rs text m
+after-going job rs cs f text m w t held waits g =
     let lefts : AreLeft job cs f = λ i d l. (g.at i d l).0.left_is in
     let same : map (left job) (extended cs f) ≡ rests job m.held rs = lefts-rests job rs cs f t lefts ∙ ap (λ (hs : List Held). rests job hs rs) (sym held) in
     record {
@@ -289,9 +289,10 @@ after-going job rs cs f text m t held kind g =
                 (sum-moved job (get_or cs i d).held.pairs (get_or cs i d).held.before (left job (on (get_or cs i d) (f i))) (groups_in job ((get_or cs i d).text.now ++ f i)) (groups_in job (text_at (outputs_of rs) i))
                 x.0.left_is x.0.pairs);
           }));
-      kind = kind;
-      few = subst (λ (gss : List (List Group)). IsWithin job (outputs_of rs) gss (waits m.waiting)) same g.kept.few;
-      told = λ s. subst (λ (gss : List (List Group)). Told job (outputs_of rs) gss (waits m.waiting) text) same
+      waiting = w;
+      waits = waits;
+      few = subst (λ (gss : List (List Group)). IsWithin job (outputs_of rs) gss w) same g.kept.few;
+      told = λ s. subst (λ (gss : List (List Group)). Told job (outputs_of rs) gss w text) same
           (g.kept.told (stands-rests job rs cs f t lefts (λ i d l. (g.at i d l).0.stands) (subst (λ (hs : List Held). AreStanding job hs rs) held s)));
     }
 
@@ -362,7 +363,7 @@ rests-stand job (r ∷ rs) (c ∷ cs) f t a all =
     )
 
 pub going-opened : (job : JobSpec) (rs : List Reading) (ws : List Window) (cs : List Cursor) (text : List ℕ) (m : Standing) (v : AreWindows rs ws) → AreOpen job m.held ws cs → length m.held ≡ length ws
-    → IsAfter job rs text m → IsGoing job (outputs_of rs) (mores rs ws v) cs (waits m.waiting) text × AreTexts rs cs (mores rs ws v)
+    → (a : IsAfter job rs text m) → IsGoing job (outputs_of rs) (mores rs ws v) cs a.waiting text × AreTexts rs cs (mores rs ws v)
 going-opened job rs ws cs text m v all count a =
     let f : ℕ → List ℕ = mores rs ws v in
     let os : List ShardText = outputs_of rs in
@@ -395,8 +396,8 @@ going-opened job rs ws cs text m v all count a =
                 (up i d low).before,
                 (up i d low).count,
               ));
-          few = subst (λ (gss : List (List Group)). IsWithin job os gss (waits m.waiting)) gone a.few;
-          told = λ s. subst (λ (gss : List (List Group)). Told job os gss (waits m.waiting) text) gone
+          few = subst (λ (gss : List (List Group)). IsWithin job os gss a.waiting) gone a.few;
+          told = λ s. subst (λ (gss : List (List Group)). Told job os gss a.waiting text) gone
               (a.told (subst (λ (hs : List Held). AreStanding job hs rs) held (rests-stand job rs cs f texts lines s)));
         };
         at = λ i d l. (

@@ -1,5 +1,6 @@
 -- Where a merge stands in the outputs of shards.
 use Rattle.std.specs.Prelude.{◌≡◌, ◌⊎◌, ℕ, ◌+◌, ◌≤◌, ◌^◌, ◌%◌, nat_lt, is_none, Bool, ◌&&◌, true, false, if◌then◌else◌, List, [], ◌∷◌, ◌++◌, Option, None, Some, IfSome, length, map, slice_index_or, slice_set}
+use Rattle.std.specs.Borrow.{Bor}
 use Rattle.std.specs.List.{AllByRecursion}
 use Rattle.std.specs.Ordering.{is_lt}
 use Rattle.std.specs.declared.cmp.Ordering.TheVariants.{Less}
@@ -13,7 +14,7 @@ use Rattle.mr_shards.specs.declared.cursor.Held.{Held}
 use Rattle.mr_shards.specs.declared.line.Tally.{Tally}
 use Rattle.mr_shards.specs.declared.line.Tally.TheVariants.{Total, Place, Files}
 use Rattle.mr_shards.specs.declared.line.Line.{Line}
-use Rattle.mr_shards.specs.Merged.{Group, group_text, joined, with_group}
+use Rattle.mr_shards.specs.Merged.{Group, joined, with_group, written}
 use Rattle.mr_shards.specs.Lines.{groups_in, joins}
 use Rattle.mr_shards.specs.declared.merger.MergeFault.{MergeFault}
 use Rattle.mr_shards.specs.Refused.{BlamesOnly, Follows, IsReadOf, IsReadTo, IsRest, IsRestOf, MayFollow, TellsFiles, last_key, lines_read}
@@ -91,6 +92,11 @@ lesser least at None = least
 lesser None at (Some line) = Some (at, line)
 lesser (Some best) at (Some line) = if is_lt (key_order line.key.now best.1.key.now) then Some (at, line) else Some best
 
+-- the line that is referred to, with its number
+abbrev pub line_at : Option (ℕ × Bor Line) → Option (ℕ × Line)
+line_at None = None
+line_at (Some b) = Some (b.0, b.1.now)
+
 -- among cursors, the first of which has the number `at`
 unfoldable pub least_from : Option (ℕ × Line) → ℕ → List Cursor → Option (ℕ × Line)
 least_from least at [] = least
@@ -144,17 +150,12 @@ IsHead job (Some l) rest = IsFor job l.tally × HasFront l
 abbrev pub IsHeadFor : JobSpec → Cursor → Type 0
 IsHeadFor job c = IsHead job c.head c.rest.now
 
--- the line is not joined to the one that waits: it has another key, or the job has a line for each value
-abbrev pub StaysApart : JobSpec → Option Group → Line → Type 0
-StaysApart job None line = Unit {0}
-StaysApart job (Some w) line = (w.key ≡ line.key.now → ⊥) ⊎ (joins job ≡ false)
-
 -- a group is taken behind the one that waits: both are one, of one key; or the one that waited is written, and it stays apart
 abbrev pub Goes : JobSpec → Option Group → Group → Group → List ℕ → List ℕ → Type 0
 Goes job None g next old new = (next ≡ g) × (new ≡ old)
 Goes job (Some w) g next old new =
     ((w.key ≡ g.key) × (next ≡ joined w g) × (new ≡ old))
-    ⊎ ((next ≡ g) × (new ≡ old ++ group_text job w) × ((w.key ≡ g.key → ⊥) ⊎ (joins job ≡ false)))
+    ⊎ ((next ≡ g) × (new ≡ old ++ written job w) × ((w.key ≡ g.key → ⊥) ⊎ (joins job ≡ false)))
 
 -- groups with the one that waits
 abbrev pub with_waiting : Option Group → List Group → List Group

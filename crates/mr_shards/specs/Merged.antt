@@ -1,11 +1,13 @@
 -- The groups of a partition, and how those of two inputs are merged.
-use Rattle.std.specs.Prelude.{ℕ, List, [], ◌∷◌, ◌++◌, map}
+use Rattle.std.specs.Prelude.{ℕ, List, [], ◌∷◌, ◌++◌, None, map}
 use Rattle.std.specs.List.{flat_map}
 use Rattle.std.specs.Ordering.{match_ordering}
 use Rattle.mr_bytes.specs.declared.Value.{Value}
 use Rattle.mr_bytes.specs.Order.{key_order}
-use Rattle.mr_jobs.specs.JobSpec.{JobSpec}
+use Rattle.mr_jobs.specs.JobSpec.{JobSpec, WordCount, LinesWith, Resources, InvertedIndex, NthField}
+use Rattle.mr_jobs.specs.declared.job.GroupText.TheVariants.{Files}
 use Rattle.mr_reduce.specs.Text.{text_of}
+use Rattle.mr_reduce.specs.Writing.{values_text}
 use Rattle.mr_bytes.specs.Pairs.{Triple}
 use Rattle.mr_sequential.specs.Sequential.{keys_of, values_of}
 
@@ -27,6 +29,17 @@ group_text job g = text_of job g.key g.values
 
 abbrev pub texts : JobSpec → List Group → List ℕ
 texts job gs = flat_map (group_text job) gs
+
+-- the same, with the files of an index as its values come: a file again where they fall
+abbrev pub written : JobSpec → Group → List ℕ
+written (WordCount keep_case) g = group_text (WordCount keep_case) g
+written (LinesWith literal fold) g = group_text (LinesWith literal fold) g
+written Resources g = group_text Resources g
+written (NthField separator number) g = group_text (NthField separator number) g
+written (InvertedIndex keep_case) g = (g.key ++ 9 ∷ values_text Files [] None g.values) ++ 10 ∷ []
+
+abbrev pub written_texts : JobSpec → List Group → List ℕ
+written_texts job gs = flat_map (written job) gs
 
 -- two groups of one key: the values of the first before those of the second
 abbrev pub joined : Group → Group → Group

@@ -15,11 +15,11 @@ use Rattle.mr_shards.specs.declared.merger.Window.{Window}
 use Rattle.mr_shards.specs.declared.shift.ShardFiles.{ShardFiles}
 use Rattle.mr_shards.specs.Cursors.{IsHeadFor, IsHeadOf, IsOpen, IsSum, MayGoOn, left, on, with_waiting}
 use Rattle.mr_shards.specs.Lines.{NoneFalls, groups_in}
-use Rattle.mr_shards.specs.Merged.{Group, texts}
+use Rattle.mr_shards.specs.Merged.{Group, texts, written_texts}
 use Rattle.mr_shards.specs.Outputs.{IsOutputOfAll, Stands, parts_in}
 use Rattle.mr_shards.specs.Portions.{Shift, behind as shift_behind, merged_groups, merged_portions, no_shift, past_shard, shifted_group}
 use Rattle.mr_shards.specs.Refused.{AreRead, Blames, Follows, IsReadTo, IsRest, IsRestOf, IsShardText, PassesNot, TellsFiles, count_at, shift_before, text_at, total_of, values_among}
-use Rattle.mr_shards.specs.Views.{IsWaitingFor, Waits, waits}
+use Rattle.mr_shards.specs.Views.{Waits, WaitsFor}
 
 -- what a merger keeps: of each shard what was taken, and what waits; and of the last round the text, and how many
 -- bytes it took of each window
@@ -101,10 +101,10 @@ abbrev pub IsBelow : Option Group → List (List Group) → Type 0
 IsBelow None lefts = Unit {0}
 IsBelow (Some w) lefts = AllByRecursion (AllByRecursion (λ (g : Group). key_order g.key w.key ≡ Less → ⊥)) lefts
 
--- the outputs stand, and what was written, with what waits and the merge of what is left, is the text of their merge
+-- the outputs stand, and what was written, with what waits and the merge of what is left, is what is written of their merge
 pub record Told (job : JobSpec) (outputs : List ShardText) (lefts : List (List Group)) (waiting : Option Group) (out : List ℕ) : Type 0 where
   pub stands : AllByRecursion (IsShardText job) outputs
-  pub text : out ++ texts job (with_waiting waiting (merged_groups lefts)) ≡ texts job (merged_portions (parts_in job outputs))
+  pub text : out ++ written_texts job (with_waiting waiting (merged_groups lefts)) ≡ written_texts job (merged_portions (parts_in job outputs))
   pub below : IsBelow waiting lefts
 
 -- lines of the job in turn were taken of that output, so many, with so many pairs; the next one may follow
@@ -141,9 +141,10 @@ AreReadUpTo job hs rs = (i : ℕ) (h : Held) (r : Reading) → i < length rs →
 pub record IsAfter (job : JobSpec) (rs : List Reading) (text : List ℕ) (m : Standing) : Type 0 where
   pub count : length m.held ≡ length rs
   pub read : AreReadUpTo job m.held rs
-  pub kind : IsWaitingFor job m.waiting
-  pub few : IsWithin job (outputs_of rs) (rests job m.held rs) (waits m.waiting)
-  pub told : AreStanding job m.held rs → Told job (outputs_of rs) (rests job m.held rs) (waits m.waiting) text
+  pub waiting : Option Group
+  pub waits : WaitsFor job m.waiting waiting
+  pub few : IsWithin job (outputs_of rs) (rests job m.held rs) waiting
+  pub told : AreStanding job m.held rs → Told job (outputs_of rs) (rests job m.held rs) waiting text
 
 -- ---- what a round does
 

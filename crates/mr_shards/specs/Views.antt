@@ -3,7 +3,11 @@ use Rattle.std.specs.Prelude.{Bool, true, false, ◌≡◌, ℕ, ◌+◌, ◌<�
 use Rattle.mr_bytes.specs.declared.Value.{Value}
 use Rattle.mr_bytes.specs.declared.Value.TheVariants.{One, At}
 use Rattle.mr_jobs.specs.JobSpec.{JobSpec, WordCount, LinesWith, Resources, InvertedIndex, NthField}
+use Rattle.std.specs.List.{flat_map}
 use Rattle.mr_bytes.specs.Cut.{Lacks}
+use Rattle.mr_jobs.specs.declared.job.GroupText.TheVariants.{Files as listing}
+use Rattle.mr_reduce.specs.Text.{place_line}
+use Rattle.mr_reduce.specs.Writing.{last_file, values_text}
 use Rattle.mr_shards.specs.declared.line.Line.{Line}
 use Rattle.mr_shards.specs.declared.line.Tally.{Tally}
 use Rattle.mr_shards.specs.declared.line.Tally.TheVariants.{Total, Place, Files}
@@ -80,31 +84,26 @@ IsUnshifted (Files list last moved) = (moved ≡ no_shift) × IsListTo last list
 
 -- ---- what waits
 
--- a key, if there is one, with its total, 0 where its places are listed, and these
+-- a key, if there is one, with its total, or with the text of its values and the last file of an index
 pub record Waits : Type 0 where
   pub some : Bool
   pub key : List ℕ
   pub total : ℕ
-  pub places : List Value
+  pub text : List ℕ
+  pub last : Option ℕ
 
 abbrev pub nothing_waits : Waits
-nothing_waits = record { some = false; key = []; total = 0; places = [] }
+nothing_waits = record { some = false; key = []; total = 0; text = []; last = None }
 
--- the group that waits
-abbrev pub waiting_group : Waits → Group
-waiting_group w = record { key = w.key; values = replicate w.total One ++ w.places }
+-- these values wait: so many, or their lines, or the line of an index without its end
+abbrev pub HoldsValues : JobSpec → Waits → List Value → Type 0
+HoldsValues (WordCount keep_case) w vs = vs ≡ replicate w.total One
+HoldsValues (LinesWith literal fold) w vs = (w.total ≡ 0) × (w.text ≡ flat_map (place_line w.key) vs)
+HoldsValues Resources w vs = vs ≡ replicate w.total One
+HoldsValues (NthField separator number) w vs = vs ≡ replicate w.total One
+HoldsValues (InvertedIndex keep_case) w vs = (w.total ≡ 0) × (w.text ≡ w.key ++ 9 ∷ values_text listing [] None vs) × (w.last ≡ last_file None vs)
 
-abbrev pub waits_if : Bool → Group → Option Group
-waits_if false g = None
-waits_if true g = Some g
-
-abbrev pub waits : Waits → Option Group
-waits w = waits_if w.some (waiting_group w)
-
--- of a job that counts no places wait, and of another one no total
-abbrev pub IsWaitingFor : JobSpec → Waits → Type 0
-IsWaitingFor (WordCount keep_case) w = w.places ≡ []
-IsWaitingFor (LinesWith literal fold) w = w.total ≡ 0
-IsWaitingFor Resources w = w.places ≡ []
-IsWaitingFor (NthField separator number) w = w.places ≡ []
-IsWaitingFor (InvertedIndex keep_case) w = w.total ≡ 0
+-- this group waits, or none
+abbrev pub WaitsFor : JobSpec → Waits → Option Group → Type 0
+WaitsFor job w None = w.some ≡ false
+WaitsFor job w (Some g) = (w.some ≡ true) × (w.key ≡ g.key) × HoldsValues job w g.values

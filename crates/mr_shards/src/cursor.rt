@@ -18,7 +18,7 @@ ghost use Rattle.mr_bytes.specs.Cut.{Lacks};
 ghost use Rattle.mr_bytes.specs.Order.{key_order};
 ghost use Rattle.mr_shards.specs.Cursors.{AreBeyond, AreBehind, BlamesNext, Differs, DoesNotFall};
 ghost use Rattle.mr_shards.specs.Cursors.{HasFront, IsAdvanced, IsFound, IsFronted, IsOpen, MayGoOn};
-ghost use Rattle.mr_shards.specs.Cursors.{least_from, lesser, on, pairs_told, passed};
+ghost use Rattle.mr_shards.specs.Cursors.{least_from, lesser, line_at, on, pairs_told, passed};
 ghost use Rattle.mr_shards.specs.Refused.{BlamesOnly, MayFollow, last_key};
 
 use crate::line::{Line, Tally, cut_first, moved, parse_line};
@@ -199,14 +199,14 @@ fn is_before(line: Line<'_>, other: Line<'_>) -> bool
 }
 
 /// The line of the lesser key, with its shard; `least` wins a tie.
-fn lesser<'a>(
-    least: Option<(usize, Line<'a>)>,
+fn lesser<'c, 'a>(
+    least: Option<(usize, &'c Line<'a>)>,
     at: usize,
-    head: Option<Line<'a>>,
-) -> Option<(usize, Line<'a>)>
-    requires least { IsFound least }
-    requires head { IsFronted head }
-    ensures { result ≡ lesser least.entry at head.entry }
+    head: &'c Option<Line<'a>>,
+) -> Option<(usize, &'c Line<'a>)>
+    requires least { IsFound (line_at least) }
+    requires head { IsFronted head.now }
+    ensures { line_at result ≡ lesser (line_at least.entry) at head.entry.now }
 {
     let Some(line) = head else {
         return least;
@@ -214,7 +214,7 @@ fn lesser<'a>(
     let Some((_, best)) = least else {
         return Some((at, line));
     };
-    if is_before(line, best) {
+    if is_before(*line, *best) {
         Some((at, line))
     } else {
         least
@@ -226,10 +226,13 @@ fn first_least<'a>(cursors: &[Cursor<'a>]) -> Option<(usize, Line<'a>)>
     ensures { result ≡ least_from None 0 cursors.entry.now }
 {
     let mut least = None;
-    for (at, cursor) in cursors.iter().enumerate() {
-        least = lesser(least, at, cursor.head);
+    for at in 0..cursors.len() {
+        least = lesser(least, at, &cursors[at].head);
     }
-    least
+    match least {
+        Some((at, line)) => Some((at, *line)),
+        None => None,
+    }
 }
 
 /// The next line, if it has the key of `last`.

@@ -1,11 +1,12 @@
 //! The files that a line of an index names, as rising numbers: `KEY\t0,3,4\n`.
 //!
-//! A line is read twice: once to test it and for its last file, where it comes, and once for all of
-//! its files, where the lines of its key are joined (`waiting.rt`). Each file is a place there, moved
-//! as the places of the shard move. Invariant: the numbers rise. Cost: one pass over the text each.
-ghost use Rattle.std.specs.Prelude.{◌≡◌, ◌+◌, ◌<◌, ◌≤◌, ◌^◌, ◌∷◌, ◌++◌, ℕ, IfSome, None};
+//! A line is read twice: once to test it and for its last file, where it comes, and once where the
+//! lines of its key are joined (`waiting.rt`): there its files are moved as the places of the shard
+//! move, and written. Invariant: the numbers rise. Cost: one pass over the text each.
+ghost use Rattle.std.specs.Prelude.{◌≡◌, ◌+◌, ◌<◌, ◌≤◌, ◌^◌, ◌∷◌, ◌++◌, [], ℕ, IfOk, IfSome, None};
 ghost use Rattle.std.specs.Prelude.{List, OnOk, MatchOption, decimal, length, map};
-ghost use Rattle.mr_bytes.specs.declared.Value.TheVariants.{At};
+ghost use Rattle.mr_jobs.specs.declared.job.GroupText.TheVariants.{Files};
+ghost use Rattle.mr_reduce.specs.Writing.{last_file as last_among, values_text};
 ghost use Rattle.mr_shards.specs.Lines.{fields, numbers_in, places_in};
 ghost use Rattle.mr_shards.specs.Index.{NumbersMove, NumbersRead};
 ghost use Rattle.mr_shards.specs.Index.{BeginsList, fields_left, number_past, size_left};
@@ -14,7 +15,7 @@ ghost use Rattle.mr_shards.specs.Views.{IsListTo};
 
 use crate::numbers::cut_number;
 use crate::shift::Shift;
-use mr_bytes::Value;
+use mr_reduce::append_file;
 use std::alloc::AllocError;
 
 /// Moved files are moved numbers, and a list of numbers is read back from its text.
@@ -39,38 +40,32 @@ pub(crate) fn last_file(list: &[u8]) -> Option<u32>
     last
 }
 
-/// Adds a place in each file of the list, moved.
-pub(crate) fn add_places(
-    places: &mut Vec<Value>,
+/// Appends the files of the list, moved, to a text that ends with the file `before`, and returns the
+/// last one.
+pub(crate) fn append_files(
+    text: &mut Vec<u8>,
+    before: Option<u32>,
     list: &[u8],
     last: u32,
     moved: Shift,
-) -> Result<(), AllocError>
+) -> Result<Option<u32>, AllocError>
     requires list { IsListTo last list.now }
     requires fits { moved.files + last < 2 ^ 32 }
-    ensures { OnOk result (places.new.items
-        ≡ places.old.items ++ map (shifted_value moved) (places_in (numbers_in list.now))) }
+    ensures text { OnOk result (text.new.items ≡ text.old.items
+        ++ values_text Files [] before (map (shifted_value moved) (places_in (numbers_in list.now)))) }
+    ensures last { IfOk result (λ r. r
+        ≡ last_among before (map (shifted_value moved) (places_in (numbers_in list.now)))) }
 {
+    let mut end = before;
     let mut left = Some(list);
-    while let Some(text) = left {
-        let (number, rest) = first_number(text);
-        places.push(place_in(number, moved))?;
-        left = rest;
+    while let Some(rest) = left {
+        let (number, more) = first_number(rest);
+        let file = (moved.files + u64::from(number)) as u32;
+        append_file(end, file, text)?;
+        end = Some(file);
+        left = more;
     }
-    Ok(())
-}
-
-/// A place in a file, moved.
-fn place_in(number: u32, moved: Shift) -> Value
-    requires { moved.files + number < 2 ^ 32 }
-    ensures { result ≡ shifted_value moved (At number 0) }
-{
-    let file = moved.files + u64::from(number);
-    let offset = if number == 0 { moved.bytes } else { 0 };
-    Value::At {
-        file: file as u32,
-        offset,
-    }
+    Ok(end)
 }
 
 /// The first number of a list that was tested, and the list behind its comma if there is one. Most

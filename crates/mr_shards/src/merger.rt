@@ -12,7 +12,7 @@
 //! merge of all. Cost: each line takes one look at the next line of every shard. A round takes, of
 //! some window that isn't the last, all whole lines but one: two lines in each let it go on.
 ghost use Rattle.std.specs.Prelude.{◌≡◌, ℕ, ◌≤◌, ◌++◌, ◌∷◌, [], ◌⊎◌, IfErr, IfOk, OnErr, OnOk, length};
-ghost use Rattle.std.specs.Prelude.{map, List, Some, true, false, ◌<◌};
+ghost use Rattle.std.specs.Prelude.{map, List, Option, Some, true, false, ◌<◌};
 ghost use Rattle.std.specs.Prelude.{None, IfSome};
 ghost use Rattle.mr_jobs.specs.JobSpec.{JobSpec};
 ghost use Rattle.mr_shards.specs.Rounds.{AreFurther, AreHeads, AreOpen, AreReadUpTo, AreWindows};
@@ -25,7 +25,8 @@ ghost use Rattle.mr_shards.specs.Merged.{texts};
 ghost use Rattle.mr_shards.specs.Refused.{Blames, IsShardText, PassesNot};
 ghost use Rattle.mr_shards.specs.Portions.{behind, merged_portions, past_shard};
 ghost use Rattle.mr_shards.specs.Outputs.{IsOutputOfAll, parts_in};
-ghost use Rattle.mr_shards.specs.Views.{IsWaitingFor, waits};
+ghost use Rattle.mr_shards.specs.Merged.{Group};
+ghost use Rattle.mr_shards.specs.Views.{WaitsFor};
 
 use crate::cursor::{Cursor, Held, advance, next_line, read_line};
 use crate::shift::{ShardFiles, Shift, shifted_file, shifted_start};
@@ -221,15 +222,14 @@ fn merge_lines(
 ) -> Result<(), MergeFault>
     requires heads { AreHeads job.now cursors.old.items }
     requires empty { out.old.items ≡ [] }
-    ensures goes { OnOk result (IsWaitingFor job.now waiting.old
-        → Goes job.now cursors.old.items cursors.new.items
-        (waits waiting.old) (waits waiting.new) out.new.items) }
+    ensures goes { OnOk result ((w : Option Group) → WaitsFor job.now waiting.old w
+        → (next : Option Group) × WaitsFor job.now waiting.new next
+        × Goes job.now cursors.old.items cursors.new.items w next out.new.items) }
     ensures heads { OnOk result (AreHeads job.now cursors.new.items) }
-    ensures waits { OnOk result (IsWaitingFor job.now waiting.old → IsWaitingFor job.now waiting.new) }
     ensures further { OnOk result (AreFurther cursors.old.items cursors.new.items) }
     ensures ends { OnOk result (AreEnded cursors.new.items ⊎ HasDryHead cursors.new.items) }
-    ensures err { IfErr result (λ e. IsWaitingFor job.now waiting.old
-        → BlamesGoing job.now cursors.old.items (waits waiting.old) e) }
+    ensures err { IfErr result (λ e. (w : Option Group) → WaitsFor job.now waiting.old w
+        → BlamesGoing job.now cursors.old.items w e) }
 {
     let mut last = None;
     while let Some((at, line)) = next_line(cursors, last) {

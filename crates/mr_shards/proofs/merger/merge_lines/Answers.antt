@@ -8,7 +8,7 @@ use Rattle.mr_shards.specs.Cursors.{AreBehind, AreEnded, BlamesNext, IsAdvanced,
 use Rattle.mr_bytes.specs.Cut as Cut
 use Rattle.mr_shards.specs.Merged.{Group}
 use Rattle.mr_shards.specs.Rounds.{BlamesGoing, HasDryHead, IsGoing}
-use Rattle.mr_shards.specs.Views.{IsWaitingFor, waiting_group, waits}
+use Rattle.mr_shards.specs.Views.{WaitsFor}
 use Rattle.mr_shards.proofs.FrontLemmas.{all-at}
 use Rattle.mr_shards.proofs.LoopLemmas.{least-within}
 use Rattle.mr_shards.proofs.RefusedLemmas.{handed}
@@ -27,9 +27,11 @@ pub loop-at-init : goal.loop-at-init
 loop-at-init c = record {
   heads = c.requires.heads;
   further = further-all c.args.cursors.now.items;
-  kind = λ k. k;
-  goes = λ k os f text g. subst (IsGoing c.args.job.now os f c.args.cursors.now.items (waits c.args.waiting.now))
-      (sym (ap (λ (o : List ℕ). text ++ o) c.requires.empty ∙ append-nil text)) g;
+  goes = λ w k. (
+    w,
+    k,
+    λ os f text g. subst (IsGoing c.args.job.now os f c.args.cursors.now.items w) (sym (ap (λ (o : List ℕ). text ++ o) c.requires.empty ∙ append-nil text)) g,
+  );
   behind = tt;
 }
 
@@ -63,20 +65,22 @@ returns-in_err-advance-clause-err c =
     let one = c.index_mut.result.now in
     let l = least-within cs at c.in-Some.line
     (least cs at c.in-Some.line (same-least cs c.deref.result.now c.next_line.result at c.in-Some.line c.deref.ensures.value c.next_line.ensures c.in-Some.is)) in
-    handed (λ e. IsWaitingFor job c.args.waiting.now → BlamesGoing job c.args.cursors.now.items (waits c.args.waiting.now) e) c.from_residual.result c.in_err-advance.field-0.0
+    handed (λ e. (w : Option Group) → WaitsFor job c.args.waiting.now w → BlamesGoing job c.args.cursors.now.items w e) c.from_residual.result c.in_err-advance.field-0.0
     (err_from_is_err_and c.from_residual.result c.from_residual.ensures.1)
-    (λ k os f text g. going-blames job os f cs at one (waits c.loop-at.waiting) (text ++ c.loop-at.out.items) c.in_err-advance.field-0.0 l (c.loop-at.invariant.goes k os f text g)
-    (subst (λ (q : Cursor). (more : List ℕ) → MayGoOn q.is_last more → BlamesNext job at (on q more) c.in_err-advance.field-0.0) c.index_mut.ensures.value c.in_err-advance.ensures.err))
+    (λ w k os f text g. (let i = c.loop-at.invariant.goes w k in
+    going-blames job os f cs at one i.0 (text ++ c.loop-at.out.items) c.in_err-advance.field-0.0 l (i.2 os f text g)
+    (subst (λ (q : Cursor). (more : List ℕ) → MayGoOn q.is_last more → BlamesNext job at (on q more) c.in_err-advance.field-0.0) c.index_mut.ensures.value c.in_err-advance.ensures.err)))
 
 -- a cursor that stays is written back
 same-cursors : (cs : List Cursor) (at : ℕ) (one d next : Cursor) → one ≡ get_or cs at d → next ≡ one → set cs at next ≡ cs
 same-cursors cs at one d next is stays = ap (set cs at) (stays ∙ is) ∙ set-get_or cs at d
 
 pub returns-then-not-branch-clause-goes : goal.returns-then-not-branch-clause-goes
-returns-then-not-branch-clause-goes c = λ k os f text g.
+returns-then-not-branch-clause-goes c = λ w k.
     let stays = c.in_ok-advance.ensures.stays c.if-not-branch.true in
     let same = same-cursors c.loop-at.cursors.items c.in-Some.at c.index_mut.result.now _ c.advance.new.cursor c.index_mut.ensures.value stays.0 in
-    subst (λ (cs : List Cursor). IsGoing c.args.job.now os f cs (waits c.loop-at.waiting) (text ++ c.loop-at.out.items)) (sym same) (c.loop-at.invariant.goes k os f text g)
+    let i = c.loop-at.invariant.goes w k in
+    (i.0, i.1, λ os f text g. subst (λ (cs : List Cursor). IsGoing c.args.job.now os f cs i.0 (text ++ c.loop-at.out.items)) (sym same) (i.2 os f text g))
 
 pub returns-then-not-branch-clause-ends : goal.returns-then-not-branch-clause-ends
 returns-then-not-branch-clause-ends c =
@@ -108,10 +112,11 @@ returns-in_err-take_line-clause-err c =
     let e = same-least cs c.deref.result.now c.next_line.result at c.in-Some.line c.deref.ensures.value c.next_line.ensures c.in-Some.is in
     let l = least-within cs at c.in-Some.line (least cs at c.in-Some.line e) in
     let a = subst (λ (q : Cursor). IsAdvanced job q c.advance.new.cursor) c.index_mut.ensures.value (c.in_ok-advance.ensures.moves c.if-not-branch.false) in
-    handed (λ e. IsWaitingFor job c.args.waiting.now → BlamesGoing job c.args.cursors.now.items (waits c.args.waiting.now) e) c.from_residual-in_err-take_line.result c.in_err-take_line.field-0.0
+    handed (λ e. (w : Option Group) → WaitsFor job c.args.waiting.now w → BlamesGoing job c.args.cursors.now.items w e) c.from_residual-in_err-take_line.result c.in_err-take_line.field-0.0
     (err_from_is_err_and c.from_residual-in_err-take_line.result c.from_residual-in_err-take_line.ensures.1)
-    (λ k os f text g. going-large job os f cs at _ c.advance.new.cursor c.in-Some.line (waits c.loop-at.waiting) (text ++ c.loop-at.out.items) c.in_err-take_line.field-0.0 l e a
-    (c.loop-at.invariant.goes k os f text g) c.in_err-take_line.ensures.err)
+    (λ w k os f text g. (let i = c.loop-at.invariant.goes w k in
+    going-large job os f cs at _ c.advance.new.cursor c.in-Some.line i.0 (text ++ c.loop-at.out.items) c.in_err-take_line.field-0.0 l e a
+    (i.2 os f text g) (c.in_err-take_line.ensures.err i.0 i.1)))
 
 pub loop-at-smaller : goal.loop-at-smaller
 loop-at-smaller c =
@@ -140,10 +145,13 @@ loop-at-preserved c =
     record {
       heads = all-set (λ (q : Cursor). IsHeadOf job q q.head) cs at next c.loop-at.invariant.heads a.opened.head;
       further = further-set c.args.cursors.now.items cs at _ next c.loop-at.invariant.further l (further-next job _ next line w a);
-      kind = λ k. c.in_ok-take_line.ensures.waits (c.loop-at.invariant.kind k);
-      goes = λ k os f text g. subst (λ (o : Option Group). IsGoing job os f (set cs at next) o (text ++ c.take_line.new.out.items)) (sym c.in_ok-take_line.ensures.some)
-          (going-step job os f cs at _ next line (waits c.loop-at.waiting) (waiting_group c.take_line.new.self) text c.loop-at.out.items c.take_line.new.out.items l e (head-is cs at _ line b) w.kind a
-          (c.in_ok-take_line.ensures.ok (c.loop-at.invariant.kind k)) (c.loop-at.invariant.goes k os f text g));
+      goes = λ o k.
+          (let i = c.loop-at.invariant.goes o k in
+          let t = c.in_ok-take_line.ensures.ok i.0 i.1 in (
+            Some t.0,
+            t.1,
+            λ os f text g. going-step job os f cs at _ next line i.0 t.0 text c.loop-at.out.items c.take_line.new.out.items l e (head-is cs at _ line b) w.kind a t.2 (i.2 os f text g),
+          ));
       behind = behind-next job at cs _ next line b l c.loop-at.invariant.heads a;
     }
 

@@ -1,4 +1,4 @@
-use Rattle.std.proofs.Common.{◌≡◌, ◌∙◌, ap, sym, subst, inl, inr, length, List, ℕ, Option, Some, refl}
+use Rattle.std.proofs.Common.{◌≡◌, ◌∙◌, ap, sym, subst, inl, inr, length, List, ℕ, Option, None, Some, refl}
 use Rattle.std.specs.Prelude.{IfSome}
 use Rattle.std.proofs.Common.{Vec}
 use Rattle.std.specs.Global.{Global}
@@ -11,8 +11,8 @@ use Rattle.mr_shards.specs.declared.merger.MergeFault.{MergeFault}
 use Rattle.mr_shards.specs.declared.merger.Window.{Window}
 use Rattle.mr_shards.specs.Cursors.{are_ended}
 use Rattle.mr_shards.specs.Refused.{Blames}
-use Rattle.mr_shards.specs.Rounds.{AreOpen, AreReadUpTo, AreWindows, AreWithin, Goes, IsAfter, IsGoing, OneGoes, Reading, Standing, cuts_at, outputs_of}
-use Rattle.mr_shards.specs.Views.{IsWaitingFor, Waits, waits}
+use Rattle.mr_shards.specs.Rounds.{AreOpen, AreReadUpTo, AreWindows, AreWithin, IsAfter, OneGoes, Reading, Standing, cuts_at, outputs_of}
+use Rattle.mr_shards.specs.Views.{Waits, WaitsFor}
 use Rattle.mr_shards.proofs.EndLemmas.{after-nothing, dry-goes, dry-window, ended-last, further-count, have-bytes, merges, nothing-within, open-heads}
 use Rattle.mr_shards.proofs.RefusedLemmas.{handed}
 use Rattle.mr_shards.proofs.RoundLemmas.{going-opened, helds, mores}
@@ -64,9 +64,8 @@ returns-in_err-merge_lines-clause-err c =
     c.from_residual-in_err-merge_lines.result c.in_err-merge_lines.field-0.0
     (err_from_is_err_and c.from_residual-in_err-merge_lines.result c.from_residual-in_err-merge_lines.ensures.1)
     (λ rs text a v.
-    (let g = (going-opened job rs ws cs text m v o (sym c.requires) a).0 in
-    c.in_err-merge_lines.ensures.err (subst (IsWaitingFor job) (sym (ap (λ (s : Standing). s.waiting) c.self.view_is)) a.kind) (outputs_of rs) (mores rs ws v) text
-    (subst (λ (w : Waits). IsGoing job (outputs_of rs) (mores rs ws v) cs (waits w) text) (sym (ap (λ (s : Standing). s.waiting) c.self.view_is)) g)))
+    c.in_err-merge_lines.ensures.err a.waiting (subst (λ (w : Waits). WaitsFor job w a.waiting) (sym (ap (λ (s : Standing). s.waiting) c.self.view_is)) a.waits) (outputs_of rs) (mores rs ws v) text
+    (going-opened job rs ws cs text m v o (sym c.requires) a).0)
 
 -- how many cursors there are
 pub cuts_of-requires : goal.cuts_of-requires
@@ -105,23 +104,31 @@ returns-clause-ok c =
     let ds = c.merge_lines.new.cursors.items in
     let o = opened job c.as_slice.result.now m.held ws c.in_ok-cursors.field-0 c.in-Some.cursors held c.in-Some.is c.in_ok-cursors.ensures.some in
     let same = ap (λ (s : Standing). s.waiting) c.self.view_is in
-    let lines : IsWaitingFor job m.waiting → IsWaitingFor job c.merge_lines.new.waiting = λ k. c.in_ok-merge_lines.ensures.waits (subst (IsWaitingFor job) (sym same) k) in
-    merges job ws m _ cs ds (waits c.merge_lines.new.waiting) c.merge_lines.new.out.items o (sym c.requires) c.in_ok-merge_lines.ensures.further c.in_ok-merge_lines.ensures.heads
-    (λ k. subst (λ (w : Waits). Goes job cs ds (waits w) (waits c.merge_lines.new.waiting) c.merge_lines.new.out.items) same (c.in_ok-merge_lines.ensures.goes (subst (IsWaitingFor job) (sym same) k)))
-    (λ k. subst (IsWaitingFor job) (sym c.waiting-3.view_is) (elim c.if-are_ended.branch [
-      | then-are_ended+in_ok-put w ↦ subst (IsWaitingFor job) (sym w.waiting-is) (w.in_ok-put.ensures.waits (lines k))
-      | else-are_ended w ↦ subst (IsWaitingFor job) (sym w.waiting-is) (lines k)
+    merges job ws m _ cs ds c.merge_lines.new.out.items o (sym c.requires) c.in_ok-merge_lines.ensures.further c.in_ok-merge_lines.ensures.heads
+    (λ w waits.
+    (let l = c.in_ok-merge_lines.ensures.goes w (subst (λ (x : Waits). WaitsFor job x w) (sym same) waits) in
+    elim c.if-are_ended.branch [
+      | then-are_ended+in_ok-put b ↦ (
+        l.0,
+        None,
+        l.2,
+        subst (λ (x : Waits). WaitsFor job x None) (sym (c.waiting-3.view_is ∙ b.waiting-is)) b.in_ok-put.ensures.none,
+        inl (
+          ap are_ended (sym c.as_slice-2.ensures.value) ∙ sym c.are_ended.ensures ∙ b.if-are_ended.true,
+          refl,
+          ap (λ (v : Vec ℕ Global). v.items) b.text-is ∙ b.in_ok-put.ensures.written l.0 l.1,
+        ),
+      )
+      | else-are_ended b ↦ (
+        l.0,
+        l.0,
+        l.2,
+        subst (λ (x : Waits). WaitsFor job x l.0) (sym (c.waiting-3.view_is ∙ b.waiting-is)) l.1,
+        inr (
+          ap are_ended (sym c.as_slice-2.ensures.value) ∙ sym c.are_ended.ensures ∙ b.if-are_ended.false,
+          refl,
+          ap (λ (v : Vec ℕ Global). v.items) b.text-is,
+        ),
+      )
     ]))
     (c.in_ok-all_held.ensures ∙ ap helds c.as_slice-3.ensures.value) (c.in_ok-cuts_of.ensures ∙ ap (cuts_at ws) c.as_slice-4.ensures.value) c.in_ok-merge_lines.ensures.ends
-    (λ k. elim c.if-are_ended.branch [
-      | then-are_ended+in_ok-put w ↦ inl (
-        ap are_ended (sym c.as_slice-2.ensures.value) ∙ sym c.are_ended.ensures ∙ w.if-are_ended.true,
-        ap waits (c.waiting-3.view_is ∙ w.waiting-is) ∙ w.in_ok-put.ensures.none,
-        ap (λ (v : Vec ℕ Global). v.items) w.text-is ∙ w.in_ok-put.ensures.written (lines k),
-      )
-      | else-are_ended w ↦ inr (
-        ap are_ended (sym c.as_slice-2.ensures.value) ∙ sym c.are_ended.ensures ∙ w.if-are_ended.false,
-        ap waits (c.waiting-3.view_is ∙ w.waiting-is),
-        ap (λ (v : Vec ℕ Global). v.items) w.text-is,
-      )
-    ])
