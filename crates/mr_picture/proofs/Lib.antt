@@ -1,0 +1,3 @@
+pub mod LineLemmas
+pub mod NumberLemmas
+pub mod ReadingLemmas

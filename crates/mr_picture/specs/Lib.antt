@@ -1,0 +1,5 @@
+pub mod HistoryLines
+pub mod Histories
+pub mod Answers
+pub mod Parsing
+pub mod Reading
