@@ -1,7 +1,7 @@
 -- The exit statuses.
 use Rattle.std.specs.Prelude.{◌≡◌, ℕ}
 use Rattle.mr_args.specs.declared.fault.Fault.{Fault}
-use Rattle.mr_args.specs.declared.fault.Fault.TheVariants.{Job, Run, NoPairs, Script, Shards, Verified, CannotRead, CannotWrite, CannotPrint, SameFile, OutOfMemory}
+use Rattle.mr_args.specs.declared.fault.Fault.TheVariants.{Job, Run, NoPairs, BadHistory, Script, Shards, Verified, CannotRead, CannotWrite, CannotPrint, SameFile, OutOfMemory}
 use Rattle.mr_files.specs.declared.store.FileFault.{FileFault}
 use Rattle.mr_files.specs.declared.store.FileFault.TheVariants as file
 use Rattle.mr_jobs.specs.declared.job.JobFault.{JobFault}
@@ -31,7 +31,7 @@ status_of_shards (shards.OtherTotal shard) = 1
 status_of_shards (shards.OtherInput input) = 1
 status_of_shards fault = 2
 
--- 3 for a file or standard output, 4 for want of memory, 1 for shards that aren't those of one whole and where pairs are missing, 2 for usage or a limit
+-- 3 for a file or standard output, 4 for want of memory, 1 for shards that aren't those of one whole, where pairs are missing, and for a bad history, 2 for usage or a limit
 abbrev pub status_of : Fault → ℕ
 status_of (CannotRead name) = 3
 status_of (CannotWrite name) = 3
@@ -40,6 +40,7 @@ status_of OutOfMemory = 4
 status_of (Shards fault) = status_of_shards fault
 status_of (Verified fault) = status_of_shards fault
 status_of NoPairs = 1
+status_of (BadHistory line) = 1
 status_of fault = 2
 
 -- want of memory is told as itself, wherever it was met

@@ -47,6 +47,8 @@ pub enum Fault {
     Shards(ShardFault),
     /// Why a result isn't the one in its verdict. Faults of files and want of memory likewise.
     Verified(ShardFault),
+    /// This line, counted from 1, is the first that no history of a run has there.
+    BadHistory { line: u64 },
     /// The command would write this file, and also reads it or writes it under another name before.
     SameFile(String),
     CannotRead(String),
@@ -170,8 +172,8 @@ impl Fault {
         }
     }
 
-    /// The exit status: 1 for unfit shards and a lack of pairs, 2 for usage or a limit, 3 for a file, 4 for want of
-    /// memory.
+    /// The exit status: 1 for unfit shards, a lack of pairs and a bad history, 2 for usage or a
+    /// limit, 3 for a file, 4 for want of memory.
     pub fn status(&self) -> u8
         ensures { result ≡ status_of self.now }
     {
@@ -179,7 +181,7 @@ impl Fault {
             Fault::CannotRead(_) | Fault::CannotWrite(_) | Fault::CannotPrint => 3,
             Fault::OutOfMemory => 4,
             Fault::Shards(fault) | Fault::Verified(fault) => shards_status(fault),
-            Fault::NoPairs => 1,
+            Fault::NoPairs | Fault::BadHistory { .. } => 1,
             _ => 2,
         }
     }
@@ -229,6 +231,7 @@ impl fmt::Display for Fault {
             Fault::ScratchInUse => write_told(f, &"ScratchInUse"),
             Fault::Shards(fault) => write_told(f, fault),
             Fault::Verified(fault) => write_verified(f, fault),
+            Fault::BadHistory { line } => write!(f, "mapred: BadHistory line {line}\n"),
             Fault::SameFile(name) => write!(f, "mapred: SameFile {name}\n"),
             Fault::CannotRead(name) => write!(f, "mapred: cannot read {name}\n"),
             Fault::CannotWrite(name) => write!(f, "mapred: cannot write {name}\n"),

@@ -6,6 +6,6 @@ mod request;
 
 pub use crate::fault::Fault;
 pub use crate::request::{
-    CheckOptions, ExplainOptions, JobKind, MergeOptions, Options, RunOptions, SeqOptions,
-    Subcommand, request_of, skip_list_law, skips_of,
+    CheckOptions, ExplainOptions, JobKind, MergeOptions, Options, PictureOptions, RunOptions,
+    SeqOptions, Subcommand, request_of, skip_list_law, skips_of,
 };

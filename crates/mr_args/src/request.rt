@@ -3,7 +3,7 @@ ghost use Rattle.std.specs.Prelude.{◌≡◌, ◌↔◌, IfOk, IfErr, OnOk, IsT
 ghost use Rattle.std.specs.Prelude.{MatchOption};
 ghost use Rattle.mr_args.specs.Asked.{AsksForOtherJob, IsJobRefusal, IsNumbersRefusal};
 ghost use Rattle.mr_args.specs.Asked.{IsRangeRefusal, IsRequestRefusal, LiteralFits, RangeStands};
-ghost use Rattle.mr_args.specs.Asked.{WithinLimits, request_asked};
+ghost use Rattle.mr_args.specs.Asked.{WithinLimits, byte_said, request_asked};
 ghost use Rattle.mr_bytes.specs.declared.RecordName.{RecordName};
 ghost use Rattle.mr_args.specs.SkipList.{Lacks, SpellsName, SpellsNames, OneSkipList};
 
@@ -21,6 +21,7 @@ pub enum JobKind {
     Grep,
     Url,
     Index,
+    Field,
 }
 
 /// What `seq`, `run`, `check` and `explain` share: a job over `files`, with its result in the
@@ -34,6 +35,10 @@ pub struct Options<'a> {
     pub literal: Option<&'a str>,
     pub fold: bool,
     pub by_host: bool,
+    /// Which field of a record is counted, from 1.
+    pub field: Option<u32>,
+    /// One byte, or `\t` for a tab; without one, spaces and tabs separate fields.
+    pub separator: Option<&'a str>,
     pub max_skips: u32,
     /// The byte of the first file from which on it is taken.
     pub from: u64,
@@ -53,7 +58,7 @@ pub struct SeqOptions<'a> {
     pub need_pairs: bool,
 }
 
-/// Options of `run`. `version` is the certificate's; `script` and `history` name files.
+/// Options of `run`. `version` is the certificate's; `script`, `history` and `picture` name files.
 #[derive(Drop)]
 pub struct RunOptions<'a> {
     pub options: Options<'a>,
@@ -64,6 +69,8 @@ pub struct RunOptions<'a> {
     pub version: Version,
     pub script: Option<&'a str>,
     pub history: Option<&'a str>,
+    /// The page on which the history is drawn.
+    pub picture: Option<&'a str>,
     /// The directory of the regions' files; without one, regions stay in memory.
     pub scratch: Option<&'a str>,
     /// A result without a pair is refused.
@@ -102,6 +109,13 @@ pub struct ExplainOptions<'a> {
     pub result: Option<&'a str>,
 }
 
+/// Options of `picture`: the history that is drawn, and the page.
+#[derive(Drop)]
+pub struct PictureOptions<'a> {
+    pub history: &'a str,
+    pub page: &'a str,
+}
+
 /// A command with its options.
 #[derive(Drop)]
 pub enum Subcommand<'a> {
@@ -111,6 +125,7 @@ pub enum Subcommand<'a> {
     Merge(MergeOptions<'a>),
     Verify(VerifyPlan<'a>),
     Explain(ExplainOptions<'a>),
+    Picture(PictureOptions<'a>),
 }
 
 fn asks_for_other_job(options: &Options<'_>) -> bool
@@ -119,17 +134,31 @@ fn asks_for_other_job(options: &Options<'_>) -> bool
     let of_words = options.keep_case;
     let of_grep = options.fold || options.literal.is_some();
     let of_url = options.by_host;
+    let of_field = options.field.is_some() || options.separator.is_some();
     match options.job {
-        JobKind::Words | JobKind::Index => of_grep || of_url,
-        JobKind::Grep => of_words || of_url,
-        JobKind::Url => of_words || of_grep,
+        JobKind::Words | JobKind::Index => of_grep || of_url || of_field,
+        JobKind::Grep => of_words || of_url || of_field,
+        JobKind::Url => of_words || of_grep || of_field,
+        JobKind::Field => of_words || of_grep || of_url,
+    }
+}
+
+/// The byte that a text says: its own, or a tab for `\t`. Any other text is a line feed's, which
+/// separates no fields.
+fn byte_of(text: &str) -> u8
+    ensures { result ≡ byte_said text.now }
+{
+    match text.as_bytes() {
+        [byte] => *byte,
+        b"\\t" => b'\t',
+        _ => b'\n',
     }
 }
 
 /// The requested job. It reports an option of another job before a fault of the job itself.
 fn job_of(alloc: Global, options: &Options<'_>) -> Result<Job, Fault>
     ensures job { IfOk result (λ j. j ≡ (request_asked options.now).job) }
-    ensures literal { IfOk result (λ j. LiteralFits j) }
+    ensures literal { OnOk result (LiteralFits (request_asked options.now).job) }
     ensures other { (result ≡ Err Fault.OtherJobsOption) ↔ AsksForOtherJob options.now }
     ensures fault { IfErr result (λ e. IsJobRefusal options.now e) }
 {
@@ -144,6 +173,10 @@ fn job_of(alloc: Global, options: &Options<'_>) -> Result<Job, Fault>
         }
         JobKind::Url => Ok(Job::url()),
         JobKind::Index => Ok(Job::index(options.keep_case)),
+        JobKind::Field => {
+            let separator = options.separator.map(|text| byte_of(text));
+            Ok(Job::field(alloc, separator, options.field.unwrap_or(0))?)
+        }
     }
 }
 
@@ -156,19 +189,22 @@ fn request_by_numbers(alloc: Global, options: &Options<'_>) -> Result<Request, F
     ensures fault { IfErr result (λ e. IsNumbersRefusal options.now e) }
 {
     let job = job_of(alloc, options)?;
-    let request = Request::new(job, options.parts, options.split, options.max_skips).map_err(
-        Fault::Request,
-    )?;
+    let request = match Request::new(job, options.parts, options.split, options.max_skips) {
+        Ok(request) => request,
+        Err(fault) => return Err(Fault::Request(fault)),
+    };
     if options.by_host {
         return request.by_host().map_err(Fault::Request);
     }
     Ok(request)
 }
 
-/// Checks the bytes from which on and up to before which the files are taken.
+/// Checks the bytes from which on and up to before which the files are taken, once all else fits.
 fn expect_range(options: &Options<'_>) -> Result<(), Fault>
     ensures stands { OnOk result (RangeStands options.now) }
     ensures fault { IfErr result (λ e. IsRangeRefusal options.now e) }
+    ensures refused { IfErr result (λ e. ¬ AsksForOtherJob options.now
+        → WithinLimits (request_asked options.now) → IsRequestRefusal options.now e) }
 {
     let files = options.files.len();
     let to = options.to.unwrap_or(options.from);

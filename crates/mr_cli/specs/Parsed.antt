@@ -11,10 +11,11 @@ use Rattle.mr_args.specs.declared.request.Options.{Options}
 use Rattle.mr_args.specs.declared.request.CheckOptions.{CheckOptions}
 use Rattle.mr_args.specs.declared.request.ExplainOptions.{ExplainOptions}
 use Rattle.mr_args.specs.declared.request.MergeOptions.{MergeOptions}
+use Rattle.mr_args.specs.declared.request.PictureOptions.{PictureOptions}
 use Rattle.mr_args.specs.declared.request.RunOptions.{RunOptions}
 use Rattle.mr_args.specs.declared.request.SeqOptions.{SeqOptions}
 use Rattle.mr_args.specs.declared.request.Subcommand.{Subcommand}
-use Rattle.mr_args.specs.declared.request.Subcommand.TheVariants.{Seq, Run, Check, Merge, Verify, Explain}
+use Rattle.mr_args.specs.declared.request.Subcommand.TheVariants.{Seq, Run, Check, Merge, Verify, Explain, Picture}
 use Rattle.mr_args.specs.Asked.{Names}
 use Rattle.mr_shard_files.specs.declared.verifying.VerifyPlan.{VerifyPlan}
 
@@ -27,10 +28,14 @@ abbrev pub IsNumberOf : Option (List ℕ) → ℕ → ℕ → Type 0
 IsNumberOf None none n = n ≡ none
 IsNumberOf (Some text) none n = (WritesNumber (2 ^ 32) text → n ≡ digits_value 10 (without_leading_plus text)) × (¬ WritesNumber (2 ^ 32) text → n ≡ none)
 
--- the number of 64 bits that the text writes; none without one
+-- the number below that one that the text writes; none without one
+abbrev pub IsNumberIn : ℕ → Option (List ℕ) → Option ℕ → Type 0
+IsNumberIn most None n = n ≡ None
+IsNumberIn most (Some text) n = (WritesNumber most text → n ≡ Some (digits_value 10 (without_leading_plus text))) × (¬ WritesNumber most text → n ≡ None)
+
+-- that of 64 bits
 abbrev pub IsByteOf : Option (List ℕ) → Option ℕ → Type 0
-IsByteOf None n = n ≡ None
-IsByteOf (Some text) n = (WritesNumber (2 ^ 64) text → n ≡ Some (digits_value 10 (without_leading_plus text))) × (¬ WritesNumber (2 ^ 64) text → n ≡ None)
+IsByteOf text n = IsNumberIn (2 ^ 64) text n
 
 abbrev pub IsFlagOf : Option (List ℕ) → Bool → Type 0
 IsFlagOf None flag = flag ≡ false
@@ -56,6 +61,8 @@ pub record AreOptionsOf (found : Found) (o : Options) : Type 0 where
   pub keep_case : IsFlagOf (one_text found (codes "keep-case")) o.keep_case
   pub fold : IsFlagOf (one_text found (codes "fold")) o.fold
   pub by_host : IsFlagOf (one_text found (codes "by-host")) o.by_host
+  pub field : IsNumberIn (2 ^ 32) (one_text found (codes "field")) o.field
+  pub separator : option_map (λ s. s.now) o.separator ≡ first_value found (codes "separator")
   pub literal : option_map (λ s. s.now) o.literal ≡ first_value found (codes "literal")
   pub out : o.out.now ≡ unwrap_or (first_value found (codes "out")) (codes ".")
   pub files : map (λ s. s.now) o.files.items ≡ option_map_or raw_values (matched_of found (codes "files")) []
@@ -75,6 +82,7 @@ pub record AreRunOptionsOf (found : Found) (o : RunOptions) : Type 0 where
   pub version : IsVersionOf (one_text found (codes "cert")) o.version
   pub script : option_map (λ s. s.now) o.script ≡ first_value found (codes "script")
   pub history : option_map (λ s. s.now) o.history ≡ first_value found (codes "history")
+  pub picture : option_map (λ s. s.now) o.picture ≡ first_value found (codes "picture")
   pub scratch : option_map (λ s. s.now) o.scratch ≡ first_value found (codes "scratch")
   pub need_pairs : IsFlagOf (one_text found (codes "need-pairs")) o.need_pairs
 
@@ -105,6 +113,11 @@ pub record AreExplainOptionsOf (found : Found) (o : ExplainOptions) : Type 0 whe
   pub limit : (n : Option ℕ) × IsByteOf (one_text found (codes "limit")) n × (o.limit ≡ unwrap_or n (2 ^ 64 - 1))
   pub result : option_map (λ s. s.now) o.result ≡ first_value found (codes "out")
 
+-- the same of a history that is drawn
+pub record ArePictureOptionsOf (found : Found) (o : PictureOptions) : Type 0 where
+  pub history : o.history.now ≡ unwrap_or (first_value found (codes "history")) []
+  pub page : o.page.now ≡ unwrap_or (first_value found (codes "out")) []
+
 -- the subcommand is that of its own name, and its options are those of its matches
 abbrev pub IsAskedBy : Option (List ℕ) → Option (List Row) → Subcommand → Type 0
 IsAskedBy name rows (Seq o) = (name ≡ Some (codes "seq")) × ((found : Found) × (rows ≡ Some (rows_of found)) × AreSeqOptionsOf found o)
@@ -113,3 +126,4 @@ IsAskedBy name rows (Check o) = (name ≡ Some (codes "check")) × ((found : Fou
 IsAskedBy name rows (Merge o) = (name ≡ Some (codes "merge")) × ((found : Found) × (rows ≡ Some (rows_of found)) × AreMergeOptionsOf found o)
 IsAskedBy name rows (Verify o) = (name ≡ Some (codes "verify")) × ((found : Found) × (rows ≡ Some (rows_of found)) × IsVerifyPlanOf found o)
 IsAskedBy name rows (Explain o) = (name ≡ Some (codes "explain")) × ((found : Found) × (rows ≡ Some (rows_of found)) × AreExplainOptionsOf found o)
+IsAskedBy name rows (Picture o) = (name ≡ Some (codes "picture")) × ((found : Found) × (rows ≡ Some (rows_of found)) × ArePictureOptionsOf found o)

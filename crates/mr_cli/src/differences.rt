@@ -70,6 +70,7 @@ fn job_name(number: u32) -> &'static str {
         2 => "grep",
         3 => "url",
         4 => "index",
+        5 => "field",
         _ => "(no such job)",
     }
 }
@@ -87,14 +88,25 @@ fn add_flags(text: &mut String, flags: u32) -> Result<(), AllocError> {
     add_where(text, flags / 4 % 2 == 1, "--by-host")
 }
 
+/// Adds the options of a field: its number, and behind that the byte in front of it, if there is one.
+fn add_field(text: &mut String, literal: &str) -> Result<(), AllocError> {
+    let number = literal.trim_start_matches(|c: char| !c.is_ascii_digit());
+    write!(text, " --field {number}")?;
+    match literal.strip_suffix(number).unwrap_or("") {
+        "" => Ok(()),
+        "\t" => write!(text, " --separator '\\t'"),
+        separator => write!(text, " --separator '{separator}'"),
+    }
+}
+
 fn add_options(text: &mut String, front: &Front) -> Result<(), AllocError> {
     let job = job_name(front.job);
     write!(text, " --job {job}")?;
-    if front.job == 2 {
-        let literal = str::from_utf8(front.literal.as_slice()).unwrap_or(
-            "(bytes that are not UTF-8)",
-        );
-        write!(text, " --literal '{literal}'")?;
+    let literal = str::from_utf8(front.literal.as_slice()).unwrap_or("(bytes that are not UTF-8)");
+    match front.job {
+        2 => write!(text, " --literal '{literal}'")?,
+        5 => add_field(text, literal)?,
+        _ => {}
     }
     add_flags(text, front.flags)?;
     let Front { parts, split, .. } = front;
@@ -106,10 +118,14 @@ fn add_others(text: &mut String, front: &Front, request: &Request) -> Result<(),
     let job = request.job();
     let is_same = front.job == job.number();
     add_where(text, !is_same, "--job")?;
+    let own = match front.job {
+        5 => "--field or --separator",
+        _ => "--literal",
+    };
     add_where(
         text,
         is_same && front.literal.as_slice() != job.literal(),
-        "--literal",
+        own,
     )?;
     if is_same {
         add_flags(text, front.flags ^ request.flags())?;

@@ -33,6 +33,7 @@ fn parts_of<'a>(asked: &'a Subcommand<'a>) -> (char, Option<&'a Options<'a>>) {
         Subcommand::Merge(_) => ('m', None),
         Subcommand::Verify(_) => ('v', None),
         Subcommand::Explain(asked) => ('e', Some(&asked.options)),
+        Subcommand::Picture(_) => ('d', None),
     }
 }
 
@@ -45,7 +46,7 @@ pub fn letter_of(asked: &Subcommand<'_>) -> char {
 fn evidence_row(asked: &ExplainOptions<'_>, status: u8) -> &'static str {
     let folds = match asked.options.job {
         JobKind::Words | JobKind::Index => !asked.options.keep_case,
-        JobKind::Grep | JobKind::Url => false,
+        JobKind::Grep | JobKind::Url | JobKind::Field => false,
     };
     let key = asked.key.unwrap_or("");
     if folds && key.bytes().any(|byte| byte.is_ascii_uppercase()) {

@@ -212,7 +212,7 @@ impl<'a, L: Inspect> NoteList<'a, L> {
                 self.note_directory(asked.out)?;
                 self.note_result(asked.out, verdict.as_str())
             }
-            Subcommand::Verify(_) | Subcommand::Explain(_) => Ok(()),
+            Subcommand::Verify(_) | Subcommand::Explain(_) | Subcommand::Picture(_) => Ok(()),
         }
     }
 }
@@ -223,7 +223,7 @@ fn asks_for_parts(asked: &Subcommand<'_>) -> bool {
         Subcommand::Seq(asked) => &asked.options,
         Subcommand::Run(asked) => &asked.options,
         Subcommand::Check(asked) => &asked.options,
-        Subcommand::Merge(_) | Subcommand::Verify(_) | Subcommand::Explain(_) => return true,
+        _ => return true,
     };
     0 < options.parts && options.parts as usize <= MOST_PARTS
 }

@@ -13,12 +13,11 @@ use crate::options::name_of;
 use crate::table::{OPTIONS, VERSION};
 use clap::ArgMatches;
 use hex::encode;
-use mr_args::{ExplainOptions, Fault, Options, Subcommand};
+use mr_args::{ExplainOptions, Options, Subcommand};
 use mr_commands::{CommandOutput, Facts, JobFacts};
 use mr_explain::Explained;
-use mr_files::{Inspect, Store, add_names, first_shared, folder_of, part_name};
+use mr_files::{Inspect, folder_of, part_name};
 use mr_shards::Verdict;
-use mr_store::CountedRead;
 use serde::Serialize;
 use serde_json::{Map, Value, put, to_string};
 use std::alloc::{AllocError, Global};
@@ -26,6 +25,9 @@ use std::collections::BTreeMap;
 
 /// The version of the report's form.
 const FORM: u32 = 1;
+
+/// What each report begins with.
+pub const FRONT: &str = "{\"report\":";
 
 /// A file of the input or of the result, or the range that is taken of it.
 #[derive(Drop, Serialize)]
@@ -393,104 +395,3 @@ pub fn report_text<F: Inspect>(
     Ok(text)
 }
 
-/// The names of all files that a command reads or writes and that are given to it.
-fn names_given(alloc: Global, asked: &Subcommand<'_>) -> Result<Vec<String>, AllocError> {
-    let mut names = Vec::new(alloc);
-    match asked {
-        Subcommand::Seq(asked) => add_names(alloc, &mut names, asked.options.files.as_slice())?,
-        Subcommand::Run(asked) => {
-            add_names(alloc, &mut names, asked.options.files.as_slice())?;
-            for name in [asked.script, asked.history] {
-                add_names(alloc, &mut names, name.as_slice())?;
-            }
-        }
-        Subcommand::Check(asked) => {
-            add_names(alloc, &mut names, asked.options.files.as_slice())?;
-            add_names(alloc, &mut names, asked.verdict.as_slice())?;
-        }
-        Subcommand::Merge(asked) => {
-            add_names(alloc, &mut names, asked.verdicts.as_slice())?;
-            add_names(alloc, &mut names, asked.inputs.as_slice())?;
-        }
-        Subcommand::Verify(asked) => add_names(alloc, &mut names, &[asked.verdict])?,
-        Subcommand::Explain(asked) => add_names(alloc, &mut names, asked.options.files.as_slice())?,
-    }
-    Ok(names)
-}
-
-/// The directories in which a command has files of other names.
-fn folders_of<'a>(alloc: Global, asked: &'a Subcommand<'a>) -> Result<Vec<&'a str>, AllocError> {
-    let mut folders = Vec::new(alloc);
-    match asked {
-        Subcommand::Seq(asked) => folders.push(asked.options.out)?,
-        Subcommand::Run(asked) => {
-            folders.push(asked.options.out)?;
-            folders.push(asked.scratch.unwrap_or(asked.options.out))?;
-        }
-        Subcommand::Check(asked) => folders.push(asked.options.out)?,
-        Subcommand::Merge(asked) => {
-            folders.push(asked.out)?;
-            for verdict in asked.verdicts.as_slice() {
-                folders.push(folder_of(verdict))?;
-            }
-        }
-        Subcommand::Verify(asked) => {
-            folders.push(asked.out.unwrap_or(folder_of(asked.verdict)))?;
-        }
-        Subcommand::Explain(asked) => folders.push(asked.result.unwrap_or("."))?,
-    }
-    Ok(folders)
-}
-
-/// Whether a file of that name may be one of a result, or one of regions.
-fn may_be_of_result(name: &str) -> bool {
-    let last = name.rsplit('/').next().unwrap_or("");
-    ["part-", "region"]
-        .iter()
-        .any(|front| last.starts_with(*front))
-        || ["certificate", "verdict"].contains(&last)
-}
-
-/// Whether a file of that name holds something else than a report. Pipes, sockets and devices, which
-/// have no identity, aren't read.
-fn holds_other<S: Store>(alloc: Global, files: &S, name: &str) -> Result<bool, AllocError> {
-    if files.identity(alloc, name)?.is_none() {
-        return Ok(false);
-    }
-    let Ok(mut reader) = files.reader(alloc, name) else {
-        return Ok(false);
-    };
-    let mut front = [0u8; 10];
-    match reader.read(&mut front) {
-        Ok(count) => Ok(count > 0 && &front[..count] != b"{\"report\":".as_slice()),
-        Err(_) => Ok(false),
-    }
-}
-
-/// Refuses a report that would be written over a file that the command reads or writes, or over
-/// any other that isn't a report.
-pub fn expect_apart<S: Store>(
-    alloc: Global,
-    files: &S,
-    asked: &Subcommand<'_>,
-    name: &str,
-) -> Result<(), Failure> {
-    let names = names_given(alloc, asked)?;
-    let mut own = Vec::new(alloc);
-    add_names(alloc, &mut own, &[name])?;
-    if let Some(shared) = first_shared(files, alloc, names.as_slice(), own.as_slice())? {
-        return Err(Failure::Command(Fault::SameFile(shared)));
-    }
-    if holds_other(alloc, files, name)? {
-        return Err(Failure::Command(Fault::SameFile(String::from_str(alloc, name)?)));
-    }
-    if may_be_of_result(name) {
-        let folders = folders_of(alloc, asked)?;
-        for folder in folders.as_slice() {
-            if files.is_same_folder(folder, folder_of(name)) {
-                return Err(Failure::Command(Fault::SameFile(String::from_str(alloc, name)?)));
-            }
-        }
-    }
-    Ok(())
-}

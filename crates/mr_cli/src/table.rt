@@ -29,7 +29,7 @@ pub const VERSION: &str = "0.2.0, proved with Rattle logic dac8208d650f15bf";
 pub const PROGRAM: CommandRow<'static> = CommandRow {
     letter: 'p',
     name: "mapred",
-    about: "MapReduce over files: counts words, finds lines, counts the resources of a log, lists the files of each word",
+    about: "MapReduce over files: counts words, finds lines, counts the resources of a log or a column, lists the files of each word",
     text: "Examples:
   mapred seq --job words --out counts book.txt
   mapred check --job words --out counts book.txt
@@ -39,7 +39,7 @@ The directory must exist, unless --fresh makes it.
 The --help of a command lists its options, its exit statuses, and what helps against each fault.",
 };
 
-pub const COMMANDS: [CommandRow<'static>; 6] = [
+pub const COMMANDS: [CommandRow<'static>; 7] = [
     CommandRow {
         letter: 's',
         name: "seq",
@@ -49,6 +49,7 @@ pub const COMMANDS: [CommandRow<'static>; 6] = [
   mapred seq --job grep --literal error --fold --out found a.log b.log
   mapred seq --job url --out visits access.log
   mapred seq --job index --out places a.txt b.txt
+  mapred seq --job field --field 9 --out codes access.log
 
 Writes DIR/part-00000 and so on, keys in rising order, then DIR/certificate, and removes no file. A verdict in DIR is emptied before.
 Exit status: 0 done, 1 no pair and --need-pairs, 2 usage or a limit, 3 a file that can't be read or written, 4 want of memory.",
@@ -60,14 +61,14 @@ Exit status: 0 done, 1 no pair and --need-pairs, 2 usage or a limit, 3 a file th
         text: "Examples:
   mapred run --job words --parts 4 --out counts book.txt
   mapred run --job words --workers 8 --split 1048576 --out counts a.txt b.txt
-  mapred run --job words --script losses --history events --out counts book.txt
+  mapred run --job words --script losses --history events --picture run.html --out counts book.txt
   mapred run --job words --scratch regions --out counts book.txt
 
 A split is the work of one map task, a partition that of one reduce task: with smaller splits and more partitions more workers share the work.
 Split size and partitions are part of what is asked for: check is given the same.
 
 Writes what seq writes with the same --cert, byte for byte where the same records are left out, and no file where nothing is certified. A verdict in DIR is emptied before.
-With --history the events of the master are written first, an event with its reply a line, certified or not.
+With --history the events of the master are written first, an event with its reply a line, certified or not. With --picture they are drawn behind the result, as `mapred picture` draws them.
 Exit status: 0 certified, 1 failed, uncertified, or no pair and --need-pairs, 2 usage or a limit, 3 a file that can't be read or written, 4 want of memory.
 
 A script says what shall go wrong, a line each; workers, splits, records and partitions count from 0:
@@ -82,6 +83,17 @@ An empty line, and one that begins with #, says nothing. As in
   # worker 1 is lost after two reports, and record 7 of split 0 is bad
   lose 1 after 2
   bad 0 7",
+    },
+    CommandRow {
+        letter: 'd',
+        name: "picture",
+        about: "Draws the history of a run as one HTML page: what each worker did, what was lost, and how it ended",
+        text: "Examples:
+  mapred run --job words --history events --out counts book.txt
+  mapred picture events --out run.html
+
+The page needs no other file and no network. It has a lane for each worker with its attempts in the order of the events, the numbers of the run above, and what went wrong below, as text too. With many events a column of the picture stands for several.
+Exit status: 0 drawn, 1 HISTORY is none, 2 usage or a limit, 3 a file that can't be read or written, 4 want of memory.",
     },
     CommandRow {
         letter: 'c',
@@ -134,7 +146,7 @@ In faults, shards, files, partitions and lines count from 0.",
   mapred verify --with-inputs --out copy counts/verdict
 
 Reads VERDICT, as check --verdict or merge wrote it, and each part beside it, or in DIR.
-Each must have the length and the SHA-256 in the verdict, and their lines must give its pairs: the sum of the counts of words and url, one for each line of grep; lines of an index give none.
+Each must have the length and the SHA-256 in the verdict, and their lines must give its pairs: the sum of the counts of words, url and field, one for each line of grep; lines of an index give none.
 With --with-inputs each file of the input, or the range of it that was judged, is read too, by the name in the verdict, from where this command runs. What a file has behind its range is not looked at.
 It doesn't judge: a verdict holds no signature, and who can change it can change the parts with it. Writes no file but the report.
 Exit status: 0 verified, 1 other files than the verdict's, 2 usage or a limit, 3 a file that can't be read, or the report that can't be written, 4 want of memory.
@@ -168,16 +180,18 @@ pub const NOTES: [&str; 1] = [
     "srm | With --fresh the result is in DIR whole or not at all. It is written to a new directory beside DIR, .DIR.fresh-N, which takes DIR's name and place at the end. Where the command fails or nothing is certified, DIR is as it was. Only a command that is killed can leave the directory beside.",
 ];
 
-pub const JOBS: [&str; 4] = ["words", "grep", "url", "index"];
+pub const JOBS: [&str; 5] = ["words", "grep", "url", "index", "field"];
 
 pub const HINTS: [&str; 3] = ["auto", "always", "never"];
 
-pub const OPTIONS: [&str; 38] = [
-    "srce | --job <JOB> | job | words: count words; grep: find lines; url: count what a log's lines request; index: list the files of each word || needed",
+pub const OPTIONS: [&str; 43] = [
+    "srce | --job <JOB> | job | words: count words; grep: find lines; url: count what a log's lines request; index: list the files of each word; field: count a column || needed",
     "srce | --keep-case | flag | words, index: take Word and word apart",
     "srce | --literal <TEXT> | text | grep: the text to look for | 1 to 4096 bytes in one line",
     "srce | --fold | flag | grep: treat letters of ASCII alike in either case",
     "srce | --by-host | flag | url: choose a key's output file by the host in it",
+    "srce | --field <N> | u32 | field: which field of each line is counted | 1 to 65535",
+    "srce | --separator <C> | text | field: the byte between fields, \\t for a tab || runs of spaces and tabs",
     "srce | --parts <R> | u32 | how many partitions, and so output files | 1 to 1024 | 1",
     "srce | --split <BYTES> | u32 | the bytes of a split, by which records are named | 1 to 67108864 | 67108864",
     "srce | --max-skips <K> | u32 | how many records may be left out | 0 to 1000 | 0",
@@ -190,6 +204,7 @@ pub const OPTIONS: [&str; 38] = [
     "m | --out <DIR> | path | a directory that exists, of the merged output files and their verdict || needed",
     "v | --out <DIR> | path | the directory of the parts || that of the verdict",
     "e | --out <DIR> | path | the directory of a result, whose line of KEY is compared || none",
+    "d | --out <FILE> | path | the page that is written || needed",
     "srm | --fresh | flag | make DIR, or take it where it is empty: the result is there whole or not at all",
     "sr | --need-pairs | flag | refuse a result without a pair, and write nothing",
     "se | --skips <LIST> | list | records to leave out, as SPLIT:RECORD,SPLIT:RECORD || \"\"",
@@ -197,6 +212,7 @@ pub const OPTIONS: [&str; 38] = [
     "r | --attempts <A> | range | how many attempts a task may have | 1 to 16 | 8",
     "r | --script <FILE> | path | what shall go wrong, a line each || nothing",
     "r | --history <FILE> | path | where the events of the run are written, a line each || nowhere",
+    "r | --picture <FILE> | path | where the events of the run are drawn last, as an HTML page || nowhere",
     "r | --scratch <DIR> | path | a directory that exists, where what map tasks give is kept in files, of which none is removed || in memory",
     "sr | --cert <V> | range | the version of the certificate; 2 takes a third to a half of the room | 1 to 2 | 1",
     "c | --threads <N> | range | how many threads judge | 1 to 64 | 1",
@@ -205,15 +221,16 @@ pub const OPTIONS: [&str; 38] = [
     "m | --partial | flag | the first input may begin inside its file, and the last one may end before its file does",
     "v | --with-inputs | flag | the files of the input are tested too",
     "srcmve | --report <FILE> | path | where the facts of the answer are written last, as one JSON object || nowhere",
-    "srcmve | --hints <WHEN> | hints | print what helps against a fault, and the system's reason, on standard error: auto does where that is a terminal || auto",
+    "srcmved | --hints <WHEN> | hints | print what helps against a fault, and the system's reason, on standard error: auto does where that is a terminal || auto",
     "srce | [FILE]... | any files | the input files, in order: at most 1024, of 1 GiB in all",
     "m | <VERDICT>... | some verdicts | the verdicts of the shards, in order, each beside the parts that it lists || needed",
+    "d | <HISTORY> | one history | the events of a run, as run --history writes them || needed",
     "v | <VERDICT> | one verdict | the verdict, which lists what was judged || needed",
-    "psrcmve | -h, --help | help | print this help",
+    "psrcmved | -h, --help | help | print this help",
     "p | -V, --version | help | print the version",
 ];
 
-pub const FAULTS: [&str; 87] = [
+pub const FAULTS: [&str; 94] = [
     "r | failed: NoWorkers | every worker is lost: the script loses them (--workers W makes more), or none can keep a region (see that the directory of --scratch is there, may be written to, and has room)",
     "r | failed: TooManySkips | more records fail than --max-skips K lets be left out; K is 0 where it isn't given",
     "r | failed: TooManyAttempts | a task has had --attempts A attempts, 8 where it isn't given, and none completed it",
@@ -231,11 +248,13 @@ pub const FAULTS: [&str; 87] = [
     "c | no: OutputDiffers | the part of that number is wrong from that byte on, or was cut: run seq again",
     "e | KEY: 0 pairs | without --keep-case keys have no upper-case letters: give --key as the output writes it",
     "e | differs: <LINE> | give the options and files that the result was made with, --parts, --by-host and --skips too",
-    "srcmve | a word of the command line is not UTF-8 | literals and names of files are UTF-8: give the file another name, or a link",
-    "srce | option does not belong to this job | --keep-case belongs to words and index, --literal and --fold to grep, --by-host to url",
+    "srcmved | a word of the command line is not UTF-8 | literals and names of files are UTF-8: give the file another name, or a link",
+    "srce | option does not belong to this job | --keep-case belongs to words and index, --literal and --fold to grep, --by-host to url, --field and --separator to field",
     "srce | EmptyLiteral | grep needs --literal TEXT",
     "srce | LongLiteral | --literal",
     "srce | LineEndInLiteral | --literal holds no line feed, since lines are looked at one by one",
+    "srce | BadField | --field N, which field needs, is 1 to 65535",
+    "srce | BadSeparator | --separator is one byte, no digit and no line feed; \\t for a tab",
     "srce | BadParts | --parts",
     "srce | BadSplitSize | --split",
     "srce | BadSkips | --max-skips",
@@ -246,6 +265,7 @@ pub const FAULTS: [&str; 87] = [
     "se | bad skip list | --skips is SPLIT:RECORD,SPLIT:RECORD, as in 0:1,0:7",
     "r | BadLine | a line of the script is `lose W after N`, `zombie W after N`, `bad S R`, `flaky S R N`, `hold W`, `spoil P B` or `damage S P B`",
     "c | LineEndInName | --verdict lists each name in one line, and that of this file, counted from 0, holds a line feed: give the file another name, or a link",
+    "d | BadHistory | this line of HISTORY, counted from 1, isn't one that run --history writes there",
     "m | BadVerdict | this VERDICT isn't as check --verdict writes it, from that line on: judge the shard again",
     "v | BadVerdict | VERDICT isn't as check --verdict writes it, from that line on: judge again",
     "mv | LongVerdict | a VERDICT has at most 1 GiB",
@@ -274,12 +294,14 @@ pub const FAULTS: [&str; 87] = [
     "c | cannot read <FILE> | it isn't there, is a directory, or may not be read; a part: --out and --parts are those of seq",
     "m | cannot read <FILE> | a verdict, a part beside it, or LIST: it isn't there, is a directory, or may not be read",
     "v | cannot read <FILE> | VERDICT, a part or an input: it isn't there, is a directory, or may not be read",
+    "d | cannot read <FILE> | HISTORY: it isn't there, is a directory, or may not be read",
     "e | cannot read <FILE> | it isn't there, is a directory, or may not be read; with --from it may not be a pipe; a part of DIR: --out, --parts and --by-host are those of seq",
     "srce | TooManyFiles | at most 1024 files: join some with cat, or cut the input into several runs",
     "m | TooManyFiles | files of all shards are numbered in 32 bits: merge fewer shards",
     "srce | TooLarge | at most 1 GiB (1073741824 bytes) in all files: cut the input into several runs, also inside a file by --from and --to",
     "sm | SameFile <FILE> | it is read, or written under another name, and would be lost: give another DIR, or the report another name",
-    "r | SameFile <FILE> | of the result, the history or the report: it is read, or written under another name, and would be lost: give another name",
+    "r | SameFile <FILE> | of the result, the history, the picture or the report: it is read, or written under another name, and would be lost: give another name",
+    "d | SameFile <FILE> | the page would be written over HISTORY: give it another name",
     "c | SameFile <FILE> | the verdict or the report would be written over a file that is read or written: give it another name",
     "ve | SameFile <FILE> | the report would be written over a file that is read: give it another name",
     "srce | TooManySplits | at most 1048576 splits: a greater --split, up to 67108864, makes fewer",
@@ -291,8 +313,9 @@ pub const FAULTS: [&str; 87] = [
     "srm | NotFresh <DIR> | with --fresh DIR isn't there yet, or is empty: name another, or empty it",
     "srm | cannot write <DIR> | with --fresh DIR is missing or an empty directory, no link and no mount point, doesn't end in .. and isn't . or /, and the directory that holds it is there and may be written",
     "sm | cannot write <FILE> | DIR isn't there (make it first, or give --fresh), may not be written, or the disk is full; the report too, which is written last",
-    "r | cannot write <FILE> | DIR isn't there (make it first, or give --fresh), may not be written, or the disk is full; the history too, which is written before the result, and the report, which is written last",
+    "r | cannot write <FILE> | DIR isn't there (make it first, or give --fresh), may not be written, or the disk is full; the history too, which is written before the result, and the picture and the report, which are written last",
     "c | cannot write <FILE> | the verdict or the report: its directory isn't there, may not be written, or the disk is full",
+    "d | cannot write <FILE> | its directory isn't there, may not be written, or the disk is full",
     "ve | cannot write <FILE> | the report: its directory isn't there, may not be written, or the disk is full",
     "e | cannot write standard output | it is closed, or the disk is full; what was printed is not all",
     "s | out of memory | words take 4 to 5 times their bytes: close other programs, or cut the input into several runs",
@@ -300,5 +323,6 @@ pub const FAULTS: [&str; 87] = [
     "c | out of memory | words take 4 to 5 times their bytes: close other programs, or judge it in the runs that it was made in, one by one",
     "m | out of memory | 256 KiB of each part are held, and at least two of its lines: merge fewer shards",
     "v | out of memory | an input's range, a part's longest line and 256 KiB are held",
+    "d | out of memory | HISTORY and the page are held",
     "e | out of memory | words take 4 to 5 times their bytes: close other programs, or cut the input into several runs",
 ];

@@ -1,5 +1,5 @@
 -- What is read and kept of files, one file more; and what a query over what is kept prints.
-use Rattle.std.proofs.Common.{◌≡◌, ℕ, zero, suc, ◌+◌, ◌-◌, ◌*◌, ◌/◌, ◌≤◌, ◌<◌, ◌^◌, Bool, true, false, cond, Option, None, List, [], ◌∷◌, ◌++◌, length, map, take, get_or, inl, refl, sym, ap, ◌∙◌, subst, arith, option_map, Result, Ok, Err, IfOk, length-append}
+use Rattle.std.proofs.Common.{◌≡◌, ℕ, zero, suc, ◌+◌, ◌-◌, ◌*◌, ◌/◌, ◌≤◌, ◌<◌, ◌^◌, Bool, true, false, cond, Option, None, List, [], ◌∷◌, ◌++◌, length, map, take, get_or, inl, refl, sym, ap, ◌∙◌, subst, arith, option_map, length-append}
 use Rattle.std.proofs.Math.Nat.{suc-mul}
 use Rattle.std.proofs.Math.Seq.{take-suc}
 use Rattle.std.proofs.lemmas.List.{append-nil, length-map, map-append, take_all}
@@ -22,7 +22,13 @@ use Rattle.mr_files.specs.Ranges.{IsRangeOf, IsRangeRefusal}
 use Rattle.mr_files.specs.Stretches.{AreTaken, AreTakenFrom, IsUntaken, Stretch, begin_in, end_in}
 use Rattle.mr_files.specs.declared.ranges.RangeFault.{RangeFault}
 use Rattle.mr_files.proofs.Passed.{sizes_more}
-use Rattle.mr_explain.specs.Explained.{explanation}
+use Rattle.std.specs.List.{filter_map}
+use Rattle.mr_bytes.specs.declared.RecordName.{RecordName}
+use Rattle.mr_splits.specs.Cut.{Cut, record_named, records_of}
+use Rattle.mr_explain.specs.Explained.{explanation, kept_of, left_out_of}
+use Rattle.mr_explain.specs.Walking.{AreCounts}
+use Rattle.mr_explain.specs.declared.query.Explained.{Explained}
+use Rattle.mr_explain.specs.declared.query.Totals.{Totals}
 use Rattle.mr_explain.specs.Sifting.{Heading, IsSifting, IsUnwanted, KeptLines, SiftedFile, as_file, heading_of, kept_files, kept_lines, whole_file}
 use Rattle.mr_explain.specs.declared.query.Query.{Query}
 use Rattle.mr_explain.specs.declared.query.SourceFile.{SourceFile}
@@ -30,13 +36,13 @@ use Rattle.mr_explain.specs.declared.query.Wanted.{Wanted}
 use Rattle.mr_explain.specs.declared.query.Wanted.TheVariants.{Key, Nothing}
 use Rattle.mr_explain.specs.declared.sifting.Sifted.{Sifted}
 use Rattle.mr_explain.proofs.SiftingLaws.{sifting-is-exact, sifting-is-no-longer}
-use Rattle.mr_args.specs.declared.fault.Fault.{Fault}
 use Rattle.mr_args.specs.declared.fault.Fault.TheVariants.{Input}
 use Rattle.mr_args.specs.declared.request.ExplainOptions.{ExplainOptions}
 use Rattle.mr_args.specs.declared.request.Options.{Options}
 use Rattle.mr_args.specs.Asked.{request_asked}
-use Rattle.mr_commands.specs.Explains.{AnswersExplain, Compares, IsComparedPart, IsSought, source_told, sources_from}
-use Rattle.mr_commands.specs.Inputs.{AreRead, IsInput, IsUnreadInput}
+use Rattle.mr_commands.specs.Explains.{AnswersExplain, Compares, IsComparedPart, IsQueryOf, IsSought, source_told, sources_from}
+use Rattle.mr_commands.specs.Facts.{KnowsEvidence}
+use Rattle.mr_commands.specs.Inputs.{AreRead, IsUnreadInput}
 use Rattle.mr_commands.specs.Named.{input_names, stretch_of}
 use Rattle.mr_commands.specs.Sifted.{AsksAlone, HasSifted, IsSiftedFile, IsSiftedRun, StandsSifted, TakesAll, keeps, names_of, whole_stretch, wholes}
 use Rattle.mr_commands.specs.declared.sifted.SiftedFiles.{SiftedFiles}
@@ -238,52 +244,76 @@ none_compared : (a b : Query) (wanted : Wanted) (text : List ℕ) (status : ℕ)
 none_compared a b (Key key) text status h = h
 none_compared a b Nothing text status h = h
 
--- what is printed over what was kept is what is asked for over the whole files
-pub explained_sifted : (holds : Stored) (o : ExplainOptions) (run : SiftedRun) (kept : Query) (before after : Seen) (status : ℕ)
-    → ((text : List ℕ) × Compares kept kept.wanted None text status × (after ≡ flushed (with_bytes before (explanation kept ++ text))))
-    → AsksAlone o → IsSiftedRun holds o.options kept.wanted run → kept.job.now ≡ run.request.job → kept.plan.now.files ≡ run.input → kept.skips.now ≡ []
-    → kept.sources.now ≡ run.sources.items → IsSought (option_map (λ s. s.now) o.key) kept.wanted → kept.limit ≡ o.limit
-    → AnswersExplain holds o before after status
-explained_sifted holds o run kept before after status p a h job plan skips sources sought limit =
-    let request : RequestSpec = request_asked o.options in
-    let whole : Query = record {
-      job = record { ref_ptr = (0, 0); now = request.job };
-      plan = record { ref_ptr = (0, 0); now = record { size = o.options.split; files = wholes h.files } };
-      skips = record { ref_ptr = (0, 0); now = [] };
-      sources = record { ref_ptr = (0, 0); now = map source_of h.files };
-      wanted = kept.wanted;
-      limit = kept.limit;
-    } in
-    let so : List ℕ → Type 0 = IsUnwanted request.job kept.wanted in
-    let siftings = all-map (StandsSifted holds so h.most) (λ (f : SiftedFile). IsSifting so f.file f.kept) h.files (λ f s. s.sifting) h.stand in
-    let same : explanation kept ≡ explanation whole = (sifting-is-exact h.files whole kept siftings
-    (record { none_left_out = refl; files_are = whole_texts h.files; printed_as = whole_headings h.files })
-    (record { none_left_out = skips; files_are = plan ∙ h.input; printed_as = ap (map heading_of) sources ∙ h.sources })
-    (record { job = job ∙ ap (λ (v : RequestSpec). v.job) h.request; wanted = refl; limit = refl })).0 in
-    record {
-      query = whole;
-      part = None;
-      text = p.0;
-      asked = record {
-        files = wholes h.files;
-        lines = 0;
-        input = (true, record { taken = taken_of holds so o.options.split h.most o.options h.files a.all h.names_are h.stand; fits = h.fits });
-        before = inl (a.all.from, refl);
-        job = refl;
-        size = refl;
-        files_are = refl;
-        spelled = a.skips;
-        allowed = none_skipped request (wholes h.files);
-        sources = whole_sources h.files ∙ ap (sources_from 0 0) h.names_are ∙ ap (λ (from : ℕ). sources_from 0 from (input_names o.options)) (sym a.all.from);
-        sought = sought;
-        limit = limit;
-      };
-      compared = subst (λ (r : Option _). IsComparedPart holds request (option_map (λ s. s.now) r) (option_map (λ s. s.now) o.key) None) (sym a.result) refl;
-      said = none_compared kept whole kept.wanted p.0 status p.1;
-      printed = p.2 ∙ ap (λ (e : List ℕ). flushed (with_bytes before (e ++ p.0))) same;
-    }
+-- a query over what is kept, and the same over the whole files
+module _ (holds : Stored) (o : ExplainOptions) (run : SiftedRun) (kept : Query) (a : AsksAlone o) (h : IsSiftedRun holds o.options kept.wanted run)
+    (job : kept.job.now ≡ run.request.job) (plan : kept.plan.now.files ≡ run.input) (skips : kept.skips.now ≡ []) (sources : kept.sources.now ≡ run.sources.items)
+    (sought : IsSought (option_map (λ s. s.now) o.key) kept.wanted) (limit : kept.limit ≡ o.limit) where
+  abbrev whole : Query
+  whole = record {
+    job = record { ref_ptr = (0, 0); now = (request_asked o.options).job };
+    plan = record { ref_ptr = (0, 0); now = record { size = o.options.split; files = wholes h.files } };
+    skips = record { ref_ptr = (0, 0); now = [] };
+    sources = record { ref_ptr = (0, 0); now = map source_of h.files };
+    wanted = kept.wanted;
+    limit = kept.limit;
+  }
 
--- the whole files are the input
-pub sifted_input : (holds : Stored) (o : Options) (wanted : Wanted) (run : SiftedRun) → TakesAll o → (h : IsSiftedRun holds o wanted run) → IsInput holds (stretch_of o) o.split (wholes h.files)
-sifted_input holds o wanted run a h =
-    (true, record { taken = taken_of holds (IsUnwanted (request_asked o).job wanted) o.split h.most o h.files a h.names_are h.stand; fits = h.fits })
+  same_job : kept.job.now ≡ whole.job.now
+  same_job = job ∙ ap (λ (v : RequestSpec). v.job) h.request
+
+  exact : (explanation kept ≡ explanation whole)
+      × ((totals : Totals) → AreCounts kept.job.now kept.wanted (kept_of kept) totals → AreCounts whole.job.now whole.wanted (kept_of whole) totals)
+  exact =
+      let so : List ℕ → Type 0 = IsUnwanted whole.job.now kept.wanted in
+      let siftings = all-map (StandsSifted holds so h.most) (λ (f : SiftedFile). IsSifting so f.file f.kept) h.files (λ f s. s.sifting) h.stand in
+      sifting-is-exact h.files whole kept siftings
+      (record { none_left_out = refl; files_are = whole_texts h.files; printed_as = whole_headings h.files })
+      (record { none_left_out = skips; files_are = plan ∙ h.input; printed_as = ap (map heading_of) sources ∙ h.sources })
+      (record { job = same_job; wanted = refl; limit = refl })
+
+  whole_asked : IsQueryOf holds o whole
+  whole_asked = record {
+    files = wholes h.files;
+    lines = 0;
+    input = (true, record { taken = taken_of holds (IsUnwanted whole.job.now kept.wanted) o.options.split h.most o.options h.files a.all h.names_are h.stand; fits = h.fits });
+    before = inl (a.all.from, refl);
+    job = refl;
+    size = refl;
+    files_are = refl;
+    spelled = a.skips;
+    allowed = none_skipped (request_asked o.options) (wholes h.files);
+    sources = whole_sources h.files ∙ ap (sources_from 0 0) h.names_are ∙ ap (λ (from : ℕ). sources_from 0 from (input_names o.options)) (sym a.all.from);
+    sought = sought;
+    limit = limit;
+  }
+
+  -- what is printed over what was kept is what is asked for over the whole files
+  pub explained_sifted : (before after : Seen) (status : ℕ)
+      → ((text : List ℕ) × Compares kept kept.wanted None text status × (after ≡ flushed (with_bytes before (explanation kept ++ text))))
+      → AnswersExplain holds o before after status
+  explained_sifted before after status p = record {
+    query = whole;
+    part = None;
+    text = p.0;
+    asked = whole_asked;
+    compared = subst (λ (r : Option _). IsComparedPart holds (request_asked o.options) (option_map (λ s. s.now) r) (option_map (λ s. s.now) o.key) None) (sym a.result) refl;
+    said = none_compared kept whole kept.wanted p.0 status p.1;
+    printed = p.2 ∙ ap (λ (e : List ℕ). flushed (with_bytes before (e ++ p.0))) exact.0;
+  }
+
+  none_left : (other : JobSpec) (skips : List RecordName) → skips ≡ [] → (cut : Cut) (totals : Totals) → AreCounts other kept.wanted (filter_map (record_named (records_of cut)) skips) totals
+      → AreCounts whole.job.now kept.wanted [] totals
+  none_left other skips none cut totals counts =
+      let empty : AreCounts other kept.wanted [] totals = subst (λ (l : List RecordName). AreCounts other kept.wanted (filter_map (record_named (records_of cut)) l) totals) none counts in
+      record { pairs = empty.pairs; records = empty.records }
+
+  -- what is counted over what was kept is what is counted over the whole files
+  pub known_sifted : (inputs : List ℕ) (e : Explained) → inputs ≡ map length (wholes h.files) → AreCounts kept.job.now kept.wanted (kept_of kept) e.kept
+      → AreCounts kept.job.now kept.wanted (left_out_of kept) e.left_out → KnowsEvidence holds o inputs e
+  known_sifted inputs e lengths of_kept of_left_out = record {
+    query = whole;
+    asked = whole_asked;
+    lengths = lengths;
+    kept = exact.1 e.kept of_kept;
+    left_out = none_left kept.job.now kept.skips.now skips kept.plan.now e.left_out of_left_out;
+  }

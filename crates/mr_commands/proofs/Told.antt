@@ -18,6 +18,7 @@ use Rattle.mr_commands.specs.Inputs.{IsStopped, IsTakenInput}
 use Rattle.mr_commands.specs.Named.{AreClear, named, read_by_check, stretch_of, verdict_file, written_by_check}
 use Rattle.mr_args.specs.Statuses.{ReportsFile}
 use Rattle.mr_commands.specs.Checks.{IsJudged}
+use Rattle.mr_commands.specs.Pictures.{IsPageRefused}
 use Rattle.mr_commands.specs.YesLines.{yes_text}
 use Rattle.mr_commands.specs.Judgements.{IsAnswer, IsJudgement, IsResult, IsSaid, Judges, text_kept}
 use Rattle.mr_commands.specs.Verdicts.{IsCheckUnanswered, IsKeptUnder, IsTextRefused, IsVerdictOf, KeepsVerdict, names_kept, verdict_about}
@@ -160,3 +161,9 @@ module _ (old : Stored) (known : Known) (asked : CheckOptions) (j : Judgement) (
 
     pub unkept : (unreadable unwritable : Faulty) (e : FileFault) (f : Fault) → IsTextRefused old new unwritable (verdict_file asked) kept e → ReportsFile e f → IsCheckUnanswered old new unreadable unwritable known asked f
     unkept unreadable unwritable e f = unkept_as unreadable unwritable e f judged.judgement.answer judged.judgement.right judged.judgement.said judged.judgement.kept
+
+-- a page that can't be written: what was wrong is told, and a beginning of it stands
+pub page_refused : (old new : Stored) (unwritable : Faulty) (name page : List ℕ) (e : FileFault) (f : Fault) → IsUnwritten unwritable name e → Begins old new name page → ReportsFile e f → IsPageRefused old new unwritable name f
+page_refused old new unwritable name page (file.CannotRead told) f h b t = absurd h
+page_refused old new unwritable name page (file.CannotWrite told) f h b t = rw t (h.0, h.1, page, b)
+page_refused old new unwritable name page file.OutOfMemory f h b t = rw t tt

@@ -1,20 +1,20 @@
 -- What a command knows beside its text, for who reports it.
-use Rattle.std.specs.Prelude.{◌≡◌, Bool, ℕ, ◌<◌, ◌==◌, ◌++◌, if◌then◌else◌, Option, None, Some, Result, Ok, Err, List, [], codes, length, map, option_map, vec_len}
+use Rattle.std.specs.Prelude.{◌≡◌, Bool, ℕ, ◌<◌, Option, None, Some, Result, Ok, Err, List, [], length, map, option_map, string_bytes, vec_len}
 use Rattle.mr_bytes.specs.declared.RecordName.{RecordName}
 use Rattle.mr_input.specs.Files.{contents, nth_file}
 use Rattle.mr_splits.specs.Named.{named_records}
 use Rattle.mr_sequential.specs.Emitted.{silent_count}
 use Rattle.mr_sequential.specs.Sequential.{sequential}
-use Rattle.mr_store.specs.Devices.{Seen, flushed, with_bytes}
+use Rattle.mr_store.specs.Devices.{Seen}
 use Rattle.mr_files.specs.Holding.{Stored}
 use Rattle.mr_files.specs.Identities.{Known}
-use Rattle.mr_shards.specs.Verdict.{Told}
 use Rattle.mr_shard_files.specs.Merging.{IsMerged}
 use Rattle.mr_shard_files.specs.Verified.{IsVerified}
 use Rattle.mr_shard_files.specs.declared.verifying.VerifyPlan.{VerifyPlan}
-use Rattle.mr_explain.specs.Explained.{label_of, summary_line}
+use Rattle.mr_explain.specs.Explained.{kept_of, left_out_of}
+use Rattle.mr_explain.specs.Walking.{AreCounts}
 use Rattle.mr_explain.specs.declared.query.Explained.{Explained}
-use Rattle.mr_explain.specs.declared.query.Wanted.{Wanted}
+use Rattle.mr_explain.specs.declared.query.Query.{Query}
 use Rattle.mr_verdict.specs.declared.answers.No.{No}
 use Rattle.mr_verdict.specs.declared.answers.Yes.{Yes}
 use Rattle.mr_args.specs.declared.request.ExplainOptions.{ExplainOptions}
@@ -27,15 +27,16 @@ use Rattle.mr_args.specs.declared.request.Subcommand.TheVariants as asks
 use Rattle.mr_args.specs.Asked.{request_asked}
 use Rattle.mr_args.specs.SkipList.{SpellsNames}
 use Rattle.mr_commands.specs.Answers.{pairs_asked}
-use Rattle.mr_commands.specs.Explains.{IsSought}
+use Rattle.mr_commands.specs.Explains.{IsQueryOf}
 use Rattle.mr_commands.specs.Inputs.{IsInput, IsTakenInput}
 use Rattle.mr_commands.specs.Merges.{list_name, verdict_names}
 use Rattle.mr_commands.specs.Named.{stretch_of}
 use Rattle.mr_commands.specs.Outcomes.{done_line}
-use Rattle.mr_commands.specs.Runs.{ReportsRan, Runs}
+use Rattle.mr_commands.specs.HistoryLines.{history_text}
+use Rattle.mr_commands.specs.Runs.{ReportsRan, Runs, history_of}
 use Rattle.mr_commands.specs.Checks.{SaysAnswer}
 use Rattle.mr_commands.specs.declared.counts.Facts.{Facts}
-use Rattle.mr_commands.specs.declared.counts.Facts.TheVariants.{Job, Verdict, Evidence}
+use Rattle.mr_commands.specs.declared.counts.Facts.TheVariants.{Job, Verdict, Evidence, Nothing}
 use Rattle.mr_commands.specs.declared.counts.JobFacts.{JobFacts}
 use Rattle.mr_commands.specs.declared.running.RunOutcome.{RunOutcome}
 use Rattle.mr_commands.specs.declared.running.RunOutcome.TheVariants.{Certified}
@@ -89,6 +90,11 @@ abbrev pub AreRanFacts : List (List ℕ) → RunOutcome → Facts → Type 0
 AreRanFacts files ran (Job job) = KnowsRan files ran job
 AreRanFacts files ran facts = ⊥
 
+-- the text of the history, where a page is made of it
+abbrev pub KnowsHistory : {A : Type 0} → Option A → RunOutcome → Facts → Type 0
+KnowsHistory page ran (Job job) = option_map string_bytes job.history ≡ option_map (λ p. history_text (history_of ran)) page
+KnowsHistory page ran facts = ⊥
+
 pub record AreRunFacts (holds : Stored) (known : Known) (o : RunOptions) (text : List ℕ) (status : ℕ) (facts : Facts) : Type 0 where
   pub ran : RunOutcome
   pub files : List (List ℕ)
@@ -96,6 +102,7 @@ pub record AreRunFacts (holds : Stored) (known : Known) (o : RunOptions) (text :
   pub input : IsInput holds (stretch_of o.options) o.options.split files
   pub told : ReportsRan ran text status
   pub knows : AreRanFacts files ran facts
+  pub history : KnowsHistory o.picture ran facts
 
 -- ---- of `check`: nothing is counted of a no
 
@@ -125,30 +132,18 @@ abbrev pub AreVerifyFacts : Stored → VerifyPlan → Facts → Type 0
 AreVerifyFacts holds o (Verdict v) = IsVerified holds o.verdict.now (option_map (λ s. s.now) o.out) o.inputs v
 AreVerifyFacts holds o facts = ⊥
 
--- ---- of `explain`: the totals that are printed
+-- ---- of `explain`: how many records are looked for, and their pairs, of those that are kept and of those that are left out
 
--- the totals of left-out records, where there are any
-abbrev pub left_out_line : Explained → List ℕ
-left_out_line e = if e.left_out.records == 0 then [] else summary_line (codes "left out") e.left_out.pairs e.left_out.records
+pub record KnowsEvidence (holds : Stored) (o : ExplainOptions) (inputs : List ℕ) (e : Explained) : Type 0 where
+  pub query : Query
+  pub asked : IsQueryOf holds o query
+  pub lengths : inputs ≡ sizes query.plan.now.files
+  pub kept : AreCounts query.job.now query.wanted (kept_of query) e.kept
+  pub left_out : AreCounts query.job.now query.wanted (left_out_of query) e.left_out
 
--- these totals are printed: those of the kept records behind their lines, those of the left-out ones behind theirs
-pub record PrintsTotals (wanted : Wanted) (e : Explained) (before after : Seen) : Type 0 where
-  pub kept : List ℕ
-  pub left_out : List ℕ
-  pub answer : List ℕ
-  pub printed : after ≡ flushed (with_bytes before (kept ++ summary_line (label_of wanted) e.kept.pairs e.kept.records ++ left_out ++ left_out_line e ++ answer))
-
-pub record KnowsEvidence (holds : Stored) (o : ExplainOptions) (before after : Seen) (inputs : List ℕ) (e : Explained) : Type 0 where
-  pub files : List (List ℕ)
-  pub wanted : Wanted
-  pub input : IsInput holds (stretch_of o.options) o.options.split files
-  pub lengths : inputs ≡ sizes files
-  pub sought : IsSought (option_map (λ s. s.now) o.key) wanted
-  pub printed : PrintsTotals wanted e before after
-
-abbrev pub AreExplainFacts : Stored → ExplainOptions → Seen → Seen → Facts → Type 0
-AreExplainFacts holds o before after (Evidence inputs e) = KnowsEvidence holds o before after inputs.items e
-AreExplainFacts holds o before after facts = ⊥
+abbrev pub AreExplainFacts : Stored → ExplainOptions → Facts → Type 0
+AreExplainFacts holds o (Evidence inputs e) = KnowsEvidence holds o inputs.items e
+AreExplainFacts holds o facts = ⊥
 
 -- ---- of every command
 
@@ -158,4 +153,5 @@ HasFacts old new known (asks.Run o) before after text status facts = AreRunFacts
 HasFacts old new known (asks.Check o) before after text status facts = AreCheckFacts old o.options text status facts
 HasFacts old new known (asks.Merge o) before after text status facts = AreMergeFacts old new known o facts
 HasFacts old new known (asks.Verify o) before after text status facts = AreVerifyFacts old o facts
-HasFacts old new known (asks.Explain o) before after text status facts = AreExplainFacts old o before after facts
+HasFacts old new known (asks.Explain o) before after text status facts = AreExplainFacts old o facts
+HasFacts old new known (asks.Picture o) before after text status facts = facts ≡ Nothing

@@ -17,3 +17,4 @@ pub mod Verdicts
 pub mod Judgements
 pub mod Streamed
 pub mod Sifted
+pub mod Pictures

@@ -28,7 +28,8 @@ use Rattle.mr_commands.specs.Inputs.{IsAsked, IsInput, IsInputRefusal}
 use Rattle.mr_commands.specs.Named.{input_names, named, stretch_of}
 use Rattle.mr_args.specs.Statuses.{ReportsFile}
 use Rattle.mr_commands.specs.Answers.{HasPairs}
-use Rattle.mr_commands.specs.HistoryLines.{fault_name, history_text}
+use Rattle.mr_picture.specs.HistoryLines.{fault_name}
+use Rattle.mr_commands.specs.HistoryLines.{history_text}
 use Rattle.mr_commands.specs.OldVerdicts.{IsEmptied, IsOldVerdict, IsVerdictShared, no_text}
 use Rattle.mr_commands.specs.NoLines.{fault_text}
 

@@ -24,6 +24,7 @@ use crate::input::{RunInput, run_input_of};
 use crate::judging::check;
 use crate::merging::merge;
 use crate::old_verdicts::{old_verdict, write_over};
+use crate::picturing::picture;
 use crate::running::{Machine, run as run_by_workers};
 use crate::texts::{CommandOutput, done_line};
 use crate::verifying::verify;
@@ -82,6 +83,7 @@ fn run_request(alloc: Global, run: RunInput, watch: &dyn Progress) -> Result<Wor
         silent: Some(made.silent),
         left_out: Some(left_out as u64),
         pairs: Some(pairs),
+        history: None,
     };
     // Free what is done before asking for more memory.
     drop(run);
@@ -210,5 +212,6 @@ pub fn execute<S: Store, C: Scratch, R: Threads + Wait + Sync, W: CountedWrite>(
         Subcommand::Merge(asked) => merge(rt, store, alloc, asked),
         Subcommand::Verify(asked) => verify(store, alloc, asked),
         Subcommand::Explain(asked) => explain(store, alloc, asked, out),
+        Subcommand::Picture(asked) => picture(store, alloc, asked),
     }
 }

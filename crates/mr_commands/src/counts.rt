@@ -20,6 +20,8 @@ pub struct JobFacts {
     pub silent: Option<u64>,
     pub left_out: Option<u64>,
     pub pairs: Option<u64>,
+    /// The text of a run's history, if a page is to be made of it.
+    pub history: Option<String>,
 }
 
 /// What a command knows beside its text.
@@ -31,6 +33,8 @@ pub enum Facts {
     Verdict(Verdict),
     /// Of `explain`: how many bytes are taken of each file of the input, and what was counted.
     Evidence(Vec<u64>, Explained),
+    /// Of `picture`.
+    Nothing,
 }
 
 impl JobFacts {
@@ -48,6 +52,7 @@ impl JobFacts {
           silent = None;
           left_out = left_out;
           pairs = pairs;
+          history = None;
         } }
     {
         JobFacts {
@@ -57,6 +62,7 @@ impl JobFacts {
             silent: None,
             left_out,
             pairs,
+            history: None,
         }
     }
 }

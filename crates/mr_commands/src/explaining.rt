@@ -264,8 +264,7 @@ fn explain_input<S: Store, W: CountedWrite>(
     ensures text { IfOk result (λ said. string_bytes said.text ≡ []) }
     ensures answers { IfOk result (λ said. AnswersExplain (S.holds store.now) asked.now
         (W.seen out.old) (W.seen out.new) said.status) }
-    ensures facts { IfOk result (λ said. AreExplainFacts (S.holds store.now) asked.now
-        (W.seen out.old) (W.seen out.new) said.facts) }
+    ensures facts { IfOk result (λ said. AreExplainFacts (S.holds store.now) asked.now said.facts) }
     ensures refused { IfErr result (IsExplainUnanswered (S.holds store.now)
         (S.unreadable store.now) (S.known_as store.now) asked.now (W.seen out.old) (W.seen out.new)) }
 {
@@ -309,8 +308,7 @@ fn explain_sifted<S: Store, W: CountedWrite>(
     ensures text { IfOk result (λ said. string_bytes said.text ≡ []) }
     ensures answers { IfOk result (λ said. AnswersExplain (S.holds store.now) asked.now
         (W.seen out.old) (W.seen out.new) said.status) }
-    ensures facts { IfOk result (λ said. AreExplainFacts (S.holds store.now) asked.now
-        (W.seen out.old) (W.seen out.new) said.facts) }
+    ensures facts { IfOk result (λ said. AreExplainFacts (S.holds store.now) asked.now said.facts) }
     ensures refused { IfErr result (IsExplainUnanswered (S.holds store.now)
         (S.unreadable store.now) (S.known_as store.now) asked.now (W.seen out.old) (W.seen out.new)) }
 {
@@ -340,8 +338,7 @@ fn explain_whole<S: Store, W: CountedWrite>(
     ensures text { IfOk result (λ said. string_bytes said.text ≡ []) }
     ensures answers { IfOk result (λ said. AnswersExplain (S.holds store.now) asked.now
         (W.seen out.old) (W.seen out.new) said.status) }
-    ensures facts { IfOk result (λ said. AreExplainFacts (S.holds store.now) asked.now
-        (W.seen out.old) (W.seen out.new) said.facts) }
+    ensures facts { IfOk result (λ said. AreExplainFacts (S.holds store.now) asked.now said.facts) }
     ensures refused { IfErr result (IsExplainUnanswered (S.holds store.now)
         (S.unreadable store.now) (S.known_as store.now) asked.now (W.seen out.old) (W.seen out.new)) }
 {
@@ -360,8 +357,7 @@ pub fn explain<S: Store, W: CountedWrite>(
     ensures text { IfOk result (λ said. string_bytes said.text ≡ []) }
     ensures answers { IfOk result (λ said. AnswersExplain (S.holds store.now) asked.now
         (W.seen out.old) (W.seen out.new) said.status) }
-    ensures facts { IfOk result (λ said. AreExplainFacts (S.holds store.now) asked.now
-        (W.seen out.old) (W.seen out.new) said.facts) }
+    ensures facts { IfOk result (λ said. AreExplainFacts (S.holds store.now) asked.now said.facts) }
     ensures refused { IfErr result (IsExplainUnanswered (S.holds store.now)
         (S.unreadable store.now) (S.known_as store.now) asked.now (W.seen out.old) (W.seen out.new)) }
 {

@@ -20,7 +20,8 @@ ghost use Rattle.mr_commands.specs.Runs.{written_by_run};
 ghost use Rattle.mr_commands.specs.OldVerdicts.{ChangesOver};
 ghost use Rattle.mr_files.specs.Names.{name_of_verdict};
 ghost use Rattle.mr_script.specs.Scripts.{SpellsScript};
-ghost use Rattle.mr_commands.specs.Facts.{AreLengths, AreRanFacts, AreRunFacts, KnowsRan, sizes};
+ghost use Rattle.mr_commands.specs.Facts.{AreLengths, AreRanFacts, AreRunFacts, KnowsHistory};
+ghost use Rattle.mr_commands.specs.Facts.{KnowsRan, sizes};
 
 use crate::commands::expect_pairs;
 use crate::counts::{Facts, JobFacts, sizes_of};
@@ -311,13 +312,36 @@ fn job_of(alloc: Global, inputs: Vec<u64>, ran: &RunOutcome) -> Result<JobFacts,
     }
 }
 
-fn output_of(alloc: Global, inputs: Vec<u64>, ran: &RunOutcome) -> Result<CommandOutput, AllocError>
+/// The text of a run's history, if a page is to be made of it.
+fn history_for(
+    alloc: Global,
+    page: Option<&str>,
+    ran: &RunOutcome,
+) -> Result<Option<String>, AllocError>
+    ensures { IfOk result (λ t. option_map string_bytes t
+        ≡ option_map (λ p. history_text (history_in ran.now)) page.entry) }
+{
+    match page {
+        None => Ok(None),
+        Some(_) => Ok(Some(history_text(alloc, history_of(ran))?)),
+    }
+}
+
+fn output_of(
+    alloc: Global,
+    page: Option<&str>,
+    inputs: Vec<u64>,
+    ran: &RunOutcome,
+) -> Result<CommandOutput, AllocError>
     ensures told { IfOk result (λ said. ReportsRan ran.now (string_bytes said.text) said.status) }
     ensures facts { IfOk result (λ said. (files : List (List ℕ)) → inputs.items ≡ sizes files
         → AreRanFacts files ran.now said.facts) }
+    ensures history { IfOk result (λ said. KnowsHistory page.entry ran.now said.facts) }
 {
     let (text, status) = line_of(alloc, ran)?;
-    let facts = Facts::Job(job_of(alloc, inputs, ran)?);
+    let history = history_for(alloc, page, ran)?;
+    let job = job_of(alloc, inputs, ran)?;
+    let facts = Facts::Job(JobFacts { history, ..job });
     Ok(CommandOutput {
         text,
         status,
@@ -433,7 +457,7 @@ pub fn run<S: Store, C: Scratch, R: Threads + Wait + Sync>(
     let names = names_of_run(alloc, asked)?;
     let out = asked.options.out;
     let verdict = old_verdict(store, alloc, out, names.as_slice())?;
-    let said = output_of(alloc, inputs, &ran)?;
+    let said = output_of(alloc, asked.picture, inputs, &ran)?;
     keep_history(store, alloc, asked.history, history_of(&ran))?;
     keep_result(rt, store, alloc, verdict.as_deref(), out, ran)?;
     Ok(said)

@@ -3,7 +3,7 @@ use Rattle.mr_splits.specs.Cut.{Cut}
 use Rattle.mr_explain.specs.declared.query.Query.{Query}
 use Rattle.mr_commands.specs.Explains.{AnswersExplain, IsComparedPart, source_told, sources_from}
 use Rattle.mr_commands.specs.Named.{input_names, stretch_of}
-use Rattle.mr_commands.proofs.ExplainLemmas.{explained, known_so, one_each, totals_printed}
+use Rattle.mr_commands.proofs.ExplainLemmas.{explained, known_so, one_each, query_asked}
 use Rattle.mr_commands.proofs.JudgingInputs.{as_many}
 use Rattle.mr_commands.proofs.explaining.explain_input.Goals as goal
 
@@ -19,8 +19,7 @@ print_all-requires-clause-one_each g c =
 pub returns-clause-answers : goal.returns-clause-answers
 returns-clause-answers g c =
     let o = c.args.asked.now.options in
-    let told : map source_told c.as_slice-2.result.now ≡ sources_from c.in_ok-lines.lines o.from (input_names o) =
-    ap (map source_told) c.as_slice-2.ensures.value ∙ c.in_ok-sources.ensures ∙ ap (λ l. sources_from c.in_ok-lines.lines o.from (map (λ s. s.now) l)) c.as_slice.ensures.value in
+    let holds = g.S.Store.holds c.args.store.now in
     let query : Query = record {
       job = c.job.result;
       plan = record { ref_ptr = (0, 0); now = c.in_ok-plan.plan };
@@ -29,13 +28,20 @@ returns-clause-answers g c =
       wanted = c.wanted_of.result;
       limit = c.args.asked.now.limit;
     } in
-    subst (λ (n : ℕ). AnswersExplain (g.S.Store.holds c.args.store.now) c.args.asked.now (g.W.CountedWrite.seen c.args.out.now) (g.W.CountedWrite.seen c.print_all.new.out) n) (sym c.output_of.ensures.status)
-    (explained (g.S.Store.holds c.args.store.now) c.args.asked.now c.args.run.now query c.in_ok-lines.lines (option_map (λ p. p.now) c.as_deref.result) (g.W.CountedWrite.seen c.args.out.now) (g.W.CountedWrite.seen c.print_all.new.out) c.in_ok-printed.printed.0
-    c.in_ok-printed.ensures.printed c.requires c.in_ok-lines.ensures.lines c.job.ensures.same (ap (λ (v : Cut). v.size) c.in_ok-plan.ensures ∙ c.split_size.ensures.same) (ap (λ (v : Cut). v.files) c.in_ok-plan.ensures) c.as_slice-skips.ensures.value c.in_ok-expect_skips.ensures.good told c.wanted_of.ensures refl
-    (subst (λ (p : Option (List ℕ)). IsComparedPart (g.S.Store.holds c.args.store.now) c.args.run.now.request (option_map (λ s. s.now) c.args.asked.now.result) (option_map (λ s. s.now) c.args.asked.now.key) p) (sym c.as_deref.ensures.value) c.in_ok-part.ensures.part))
+    let told : map source_told c.as_slice-2.result.now ≡ sources_from c.in_ok-lines.lines o.from (input_names o) =
+    ap (map source_told) c.as_slice-2.ensures.value ∙ c.in_ok-sources.ensures ∙ ap (λ l. sources_from c.in_ok-lines.lines o.from (map (λ s. s.now) l)) c.as_slice.ensures.value in
+    let asked = query_asked holds c.args.asked.now c.args.run.now query c.in_ok-lines.lines c.requires c.in_ok-lines.ensures.lines c.job.ensures.same
+    (ap (λ (v : Cut). v.size) c.in_ok-plan.ensures ∙ c.split_size.ensures.same) (ap (λ (v : Cut). v.files) c.in_ok-plan.ensures)
+    c.as_slice-skips.ensures.value c.in_ok-expect_skips.ensures.good told c.wanted_of.ensures refl in
+    subst (λ (n : ℕ). AnswersExplain holds c.args.asked.now (g.W.CountedWrite.seen c.args.out.now) (g.W.CountedWrite.seen c.print_all.new.out) n) (sym c.output_of.ensures.status)
+    (explained holds c.args.asked.now c.args.run.now query (option_map (λ p. p.now) c.as_deref.result) (g.W.CountedWrite.seen c.args.out.now) (g.W.CountedWrite.seen c.print_all.new.out) c.in_ok-printed.printed.0
+    c.in_ok-printed.ensures.printed asked c.requires.request
+    (subst (λ (p : Option (List ℕ)). IsComparedPart holds c.args.run.now.request (option_map (λ s. s.now) c.args.asked.now.result) (option_map (λ s. s.now) c.args.asked.now.key) p) (sym c.as_deref.ensures.value) c.in_ok-part.ensures.part))
 
 pub returns-clause-facts : goal.returns-clause-facts
 returns-clause-facts g c =
+    let o = c.args.asked.now.options in
+    let holds = g.S.Store.holds c.args.store.now in
     let query : Query = record {
       job = c.job.result;
       plan = record { ref_ptr = (0, 0); now = c.in_ok-plan.plan };
@@ -44,12 +50,15 @@ returns-clause-facts g c =
       wanted = c.wanted_of.result;
       limit = c.args.asked.now.limit;
     } in
-    let p = c.in_ok-printed.ensures.printed in
-    known_so (g.S.Store.holds c.args.store.now) c.args.asked.now (g.W.CountedWrite.seen c.args.out.now) (g.W.CountedWrite.seen c.print_all.new.out) c.output_of.result.facts c.in_ok-inputs.inputs c.in_ok-printed.printed.1 c.output_of.ensures.facts (record {
-      files = c.args.run.now.input;
-      wanted = c.wanted_of.result;
-      input = c.requires.input;
-      lengths = c.in_ok-inputs.ensures;
-      sought = c.wanted_of.ensures;
-      printed = totals_printed query c.in_ok-printed.printed.1 (g.W.CountedWrite.seen c.args.out.now) (g.W.CountedWrite.seen c.print_all.new.out) p.0 c.in_ok-printed.ensures.kept c.in_ok-printed.ensures.left_out p.2;
+    let told : map source_told c.as_slice-2.result.now ≡ sources_from c.in_ok-lines.lines o.from (input_names o) =
+    ap (map source_told) c.as_slice-2.ensures.value ∙ c.in_ok-sources.ensures ∙ ap (λ l. sources_from c.in_ok-lines.lines o.from (map (λ s. s.now) l)) c.as_slice.ensures.value in
+    let asked = query_asked holds c.args.asked.now c.args.run.now query c.in_ok-lines.lines c.requires c.in_ok-lines.ensures.lines c.job.ensures.same
+    (ap (λ (v : Cut). v.size) c.in_ok-plan.ensures ∙ c.split_size.ensures.same) (ap (λ (v : Cut). v.files) c.in_ok-plan.ensures)
+    c.as_slice-skips.ensures.value c.in_ok-expect_skips.ensures.good told c.wanted_of.ensures refl in
+    known_so holds c.args.asked.now c.output_of.result.facts c.in_ok-inputs.inputs c.in_ok-printed.printed.1 c.output_of.ensures.facts (record {
+      query = query;
+      asked = asked;
+      lengths = c.in_ok-inputs.ensures ∙ ap (λ (v : Cut). map length v.files) (sym c.in_ok-plan.ensures);
+      kept = c.in_ok-printed.ensures.kept;
+      left_out = c.in_ok-printed.ensures.left_out;
     })

@@ -117,6 +117,7 @@ returns-clause-facts g c =
       input = input;
       told = c.in_ok-said.ensures.told;
       knows = c.in_ok-said.ensures.facts files lengths;
+      history = c.in_ok-said.ensures.history;
     }
 
 pub returns-clause-others : goal.returns-clause-others
