@@ -1,7 +1,7 @@
 #!/usr/bin/env python3
 """Runs mapred and its rivals side by side, alternating, and prints ratios.
 
-    bench.py MAPRED [--mb 16] [--lines 200000] [--rounds 3] [--dir FOLDER] [--jobs words,grep,url,url-by-host,index]
+    bench.py MAPRED [--mb 16] [--lines 200000] [--rounds 3] [--dir FOLDER] [--jobs words,grep,url,url-by-host,index,field]
              [--timeout 120] [--json FILE] [--real FILE] [--workers 4] [--parts 8] [--no-check-equal]
 
 MAPRED may be '-' (the rivals alone). A job, subcommand or option that the binary does not
@@ -163,7 +163,7 @@ def main():
     ask.add_argument("--lines", type=int, default=200_000)
     ask.add_argument("--rounds", type=int, default=3)
     ask.add_argument("--dir", default=os.path.join(tempfile.gettempdir(), "mapred-bench"))
-    ask.add_argument("--jobs", default="words,grep,url,url-by-host,index")
+    ask.add_argument("--jobs", default="words,grep,url,url-by-host,index,field")
     ask.add_argument("--timeout", type=float, default=120)
     ask.add_argument("--workers", type=int, default=4)
     ask.add_argument("--parts", type=int, default=8)
@@ -198,6 +198,11 @@ def main():
             Rival("mawk -F'\"' | sort", f"mawk -F'\"' '{{split($2,a,\" \"); if (a[2]!=\"\") c[a[2]]++}} END{{for(k in c) print k \"\\t\" c[k]}}' {hosts} | sort"),
             *([Rival("mapred seq by key", [mapred, "seq", "--job", "url", "--parts", str(it.parts), "--out", f"{room}/by-key", hosts], out=f"{room}/by-key")] if mapred else []),
             Rival("native seq by key", [native, "seq", "--job", "url", "--parts", str(it.parts), "--out", f"{room}/by-key-n", hosts], out=f"{room}/by-key-n"),
+        ], 2),
+        # the seventh column of the log by gaps, which is what is requested
+        "field": ([log], ["--job", "field", "--field", "7"], [
+            Rival("mawk n[$7]++", f"mawk '{{n[$7]++}} END{{for(k in n) print k \"\\t\" n[k]}}' {log}"),
+            Rival("mawk n[$7]++ | sort", f"mawk '{{n[$7]++}} END{{for(k in n) print k \"\\t\" n[k]}}' {log} | sort"),
         ], 2),
         "index": (pieces, ["--job", "index"], [
             Rival("mawk RS=.. last[k] | sort", f"mawk -v RS='{WORD}' 'FNR==1{{n++}} {{k=tolower($0); if (last[k]!=n) {{last[k]=n; l[k]=l[k] \",\" n-1}}}} END{{for(k in l) print k \"\\t\" substr(l[k],2)}}' {' '.join(pieces)} | sort"),

@@ -483,11 +483,13 @@ def words():
     parser = argparse.ArgumentParser(description=__doc__, formatter_class=argparse.RawDescriptionHelpFormatter)
     parser.add_argument("--out", required=True, metavar="DIR", help="where the result goes, a new folder or an empty one")
     parser.add_argument("--resume", action="store_true", help="go on with what is in DIR, by the same options")
-    parser.add_argument("--job", required=True, choices=["words", "grep", "url", "index"])
+    parser.add_argument("--job", required=True, choices=["words", "grep", "url", "index", "field"])
     parser.add_argument("--literal", help="what grep looks for")
     parser.add_argument("--fold", action="store_true", help="grep: letters in either case")
     parser.add_argument("--keep-case", action="store_true", help="words, index: capitals are not folded")
     parser.add_argument("--by-host", action="store_true", help="url: a key's output file is that of its host")
+    parser.add_argument("--field", metavar="N", help="field: which field of each line is counted, from 1")
+    parser.add_argument("--separator", metavar="C", help="field: the byte between fields, \\t for a tab (runs of spaces and tabs)")
     parser.add_argument("--parts", default="1", help="partitions, one file each")
     parser.add_argument("--split", help="bytes of a split")
     parser.add_argument("--shard-size", type=size_of, default=size_of("256M"), metavar="SIZE", help="the most bytes of a shard, as 100M or 1G (256M)")
@@ -510,6 +512,8 @@ def job_of(asked):
     """The request as the words of mapred's command line."""
     job = ["--job", asked.job, "--parts", asked.parts]
     job += [f"--literal={asked.literal}"] if asked.literal is not None else []
+    job += [f"--field={asked.field}"] if asked.field is not None else []
+    job += [f"--separator={asked.separator}"] if asked.separator is not None else []
     job += ["--split", asked.split] if asked.split else []
     return job + ["--fold"] * asked.fold + ["--keep-case"] * asked.keep_case + ["--by-host"] * asked.by_host
 

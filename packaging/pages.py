@@ -13,7 +13,7 @@ from collections import namedtuple
 Argument = namedtuple("Argument", "name value choices help")
 # A command: its name, what it does, the line of its usage, its arguments, and what stands behind them.
 Command = namedtuple("Command", "name about usage arguments more")
-PATHS = ("FILE", "LIST", "VERDICT")
+PATHS = ("FILE", "HISTORY", "LIST", "VERDICT")
 
 
 def said(program, *words):

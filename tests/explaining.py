@@ -190,7 +190,7 @@ def random_calls(harness):
         got = harness.run(words, cwd=where)[:3]
         harness.check(f"{turn} {request} {ranges} {skips} {key} {limit}", got == (status, want, b""), repr((got, want)))
         seen.add((request.job, key is None, b"left out:" in want))
-    harness.check("each job was met with keys, without, with left-out records, agreeing and differing", len(seen) == 24, repr(sorted(map(repr, seen))))
+    harness.check("each job was met with keys, without, with left-out records, agreeing and differing", len(seen) == 30, repr(sorted(map(repr, seen))))
 
 
 def changed(rnd, part, key):

@@ -52,7 +52,7 @@ def limits(harness):
     """Each fault of the options and of the input: which option, and which limit."""
     seq = ["seq", *WORDS]
     grep = ["seq", "--job", "grep", "--out", "."]
-    other = b"--keep-case belongs to words and index, --literal and --fold to grep, --by-host to url"
+    other = b"--keep-case belongs to words and index, --literal and --fold to grep, --by-host to url, --field and --separator to field"
     literal = b"--literal is 1 to 4096 bytes in one line"
     skips = b"--skips names more records than --max-skips K allows; K is 0 where it isn't given"
     for name, words, err, hint in [

@@ -69,7 +69,7 @@ def completed(harness):
     os.mkdir(os.path.join(top, "counts"))
     rows = [
         (["se"], ["seq"]),
-        (["seq", "--job", ""], ["words", "grep", "url", "index"]),
+        (["seq", "--job", ""], ["words", "grep", "url", "index", "field"]),
         (["seq", "--spl"], ["--split"]),
         (["run", "--his"], ["--history"]),
         (["check", "--out", "cou"], ["counts"]),

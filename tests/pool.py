@@ -324,7 +324,7 @@ def many_pairs(harness):
 
 # The jobs whose runs are told by the program `mr_pool_tests`, and those of all runs.
 TOLD_JOBS = ["words", "words", "grep", "url"]
-ALL_JOBS = [*TOLD_JOBS, "index", "index"]
+ALL_JOBS = [*TOLD_JOBS, "index", "index", "field"]
 
 
 def random_case(start, jobs=ALL_JOBS):
@@ -333,6 +333,8 @@ def random_case(start, jobs=ALL_JOBS):
     job = rnd.choice(jobs)
     literal = b"aB" if job == "grep" else b""
     request = Request(job, rnd.randint(1, 4), rnd.choice([3, 8, 20, 1000]), job in ("words", "index") and rnd.random() < 0.3, literal, job == "grep", rnd.choice([0, 1, 2, 5]))
+    if job == "field":
+        request.number, request.separator = rnd.choice([(1, b""), (2, b""), (1, b" "), (2, b"a")])
     line = lambda: rnd.choice([b"a Ab c", b"AB", b"", b"xaby the x", b'h "GET /%d x" 1' % rnd.randint(0, 3), b"b b"])
     files = [b"\n".join(line() for _ in range(rnd.randint(0, 9))) + rnd.choice([b"", b"\n"]) for _ in range(rnd.randint(0, 3))]
     splits = sum((len(data) + request.split - 1) // request.split for data in files)

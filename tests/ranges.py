@@ -96,7 +96,7 @@ def random_ranges(harness):
         harness.check(f"{turn} {request} {shards}", answer == (0, said(outputs, pairs, names), b""), repr(answer))
         harness.check(f"{turn} {request} {shards}, files", contents(where) == want, repr((contents(where), want)))
         seen.add((request.job, bool(names), any(low > 0 for ranges in shards for _, low, _ in ranges)))
-    harness.check("each job was cut inside a file, with and without left-out records", len(seen) == 16, repr(sorted(seen)))
+    harness.check("each job was cut inside a file, with and without left-out records", len(seen) == 20, repr(sorted(seen)))
 
 
 def left_out_of(request, files, shards, lists):

@@ -13,7 +13,7 @@ import time
 sys.path.insert(0, os.path.dirname(os.path.abspath(__file__)))
 from harness import Harness
 
-MODULES = ["wrong_bodies", "examples", "documents", "worked", "literals", "emitted", "inverted", "hosts", "ground", "buffers", "master", "book", "runs", "regions", "pool", "running", "libraries", "colliding", "lanes", "command_line", "hints", "fresh", "files", "failing", "memory", "producer", "judging", "short_names", "verdicts", "merge", "ranges", "verifying", "explaining", "reports", "replacing", "runner", "tools", "launcher", "packaging"]
+MODULES = ["wrong_bodies", "examples", "documents", "worked", "literals", "emitted", "inverted", "hosts", "fields", "ground", "buffers", "master", "book", "runs", "regions", "pool", "running", "libraries", "colliding", "lanes", "command_line", "hints", "fresh", "files", "failing", "memory", "producer", "judging", "short_names", "verdicts", "merge", "ranges", "verifying", "picturing", "explaining", "reports", "replacing", "runner", "tools", "launcher", "packaging"]
 
 
 def groups():

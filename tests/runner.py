@@ -84,7 +84,7 @@ def by_seq(harness, job, files):
 def runner(harness):
     """Each job is that of one execution, also where each shard is lost once; what is done again, and what is not."""
     given = some_files()
-    for job in (["words", "--keep-case"], ["grep", "--literal", "cat a"], ["url"], ["index"]):
+    for job in (["words", "--keep-case"], ["grep", "--literal", "cat a"], ["url"], ["index"], ["field", "--field", "2"]):
         job = ["--job", *job, "--parts", "2"]
         where = harness.directory(given)
         got = by_runner(harness.program, [*job, "--shard-size", "500", *given], where)

@@ -211,7 +211,7 @@ def changes(harness):
         harness.check(f"{turn} {request} {want}", both == (both if passes and both[0] == 0 else no(want)), repr((both, want)))
         harness.check(f"{turn} {request} {want}, without the input", alone[0] == (0 if passes or of_input else 1), repr((alone, want)))
         seen.add((way, request.job))
-    harness.check("each job was met with each kind of change", len(seen) == 12, repr(sorted(seen)))
+    harness.check("each job was met with each kind of change", len(seen) == 15, repr(sorted(seen)))
 
 
 def failing_calls(harness):
