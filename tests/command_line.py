@@ -116,7 +116,7 @@ def order_of_faults(harness):
 def help_texts(harness):
     """Help and version, byte for byte."""
     texts = os.path.join(HERE, "texts")
-    for name, line in (("help", ["--help"]), ("seq", ["seq", "--help"]), ("run", ["run", "--help"]), ("check", ["check", "--help"]), ("merge", ["merge", "--help"]), ("verify", ["verify", "--help"]), ("explain", ["explain", "--help"]), ("version", ["--version"])):
+    for name, line in (("help", ["--help"]), ("seq", ["seq", "--help"]), ("run", ["run", "--help"]), ("check", ["check", "--help"]), ("merge", ["merge", "--help"]), ("verify", ["verify", "--help"]), ("explain", ["explain", "--help"]), ("picture", ["picture", "--help"]), ("version", ["--version"])):
         got = harness.run(line)
         said = got[1].replace(b"Usage: %s" % os.fsencode(os.path.basename(harness.program)), b"Usage: mapred")
         with open(os.path.join(texts, name + ".txt"), "rb") as file:

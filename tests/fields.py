@@ -52,7 +52,7 @@ def certificates(harness):
     seq = ["seq", *BY_COLON, "--field", "2", "--split", "64"]
     row(harness, "a column certified", seq, COLUMNS, out=b"done: 1 files, 2 pairs, 0 left out\n", parts=[TOLD], certificate=CERTIFIED)
     got = harness.run([*seq, "--cert", "2", "--out", ".", *COLUMNS], COLUMNS)
-    short = b"MRCERT2\n" + CERTIFIED[8:50] + bytes.fromhex("00 00 00 02  00 00 00 01  00 01 00  00 00 00 01  00 00 00")
+    short = b"MRCERT2\n" + CERTIFIED[8:50] + bytes.fromhex("00 00 00 01  00 01 00  00 00 00 01  00 00 00")
     harness.check("a column certified in version 2", got[:3] == (0, b"done: 1 files, 2 pairs, 0 left out\n", b"") and result_of(got[3]) == ([TOLD], short), repr((got[:3], result_of(got[3]))))
     harness.check("the length of the certificate", len(CERTIFIED) == 82)
 
