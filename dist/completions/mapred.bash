@@ -3,12 +3,14 @@ _mapred() {
     local word=${COMP_WORDS[COMP_CWORD]} before=${COMP_WORDS[COMP_CWORD - 1]}
     COMPREPLY=()
     if [ "$COMP_CWORD" = 1 ]; then
-        mapfile -t COMPREPLY < <(compgen -W 'seq run check merge verify explain help --help --version' -- "$word")
+        mapfile -t COMPREPLY < <(compgen -W 'seq run picture check merge verify explain help --help --version' -- "$word")
         return
     fi
     case "${COMP_WORDS[1]} $before" in
-    'seq --job') mapfile -t COMPREPLY < <(compgen -W 'words grep url index' -- "$word") && return ;;
+    'seq --job') mapfile -t COMPREPLY < <(compgen -W 'words grep url index field' -- "$word") && return ;;
     'seq --literal') return ;;
+    'seq --field') return ;;
+    'seq --separator') return ;;
     'seq --parts') return ;;
     'seq --split') return ;;
     'seq --max-skips') return ;;
@@ -19,8 +21,10 @@ _mapred() {
     'seq --cert') return ;;
     'seq --report') mapfile -t COMPREPLY < <(compgen -f -- "$word") && return ;;
     'seq --hints') mapfile -t COMPREPLY < <(compgen -W 'auto always never' -- "$word") && return ;;
-    'run --job') mapfile -t COMPREPLY < <(compgen -W 'words grep url index' -- "$word") && return ;;
+    'run --job') mapfile -t COMPREPLY < <(compgen -W 'words grep url index field' -- "$word") && return ;;
     'run --literal') return ;;
+    'run --field') return ;;
+    'run --separator') return ;;
     'run --parts') return ;;
     'run --split') return ;;
     'run --max-skips') return ;;
@@ -31,12 +35,17 @@ _mapred() {
     'run --attempts') return ;;
     'run --script') mapfile -t COMPREPLY < <(compgen -f -- "$word") && return ;;
     'run --history') mapfile -t COMPREPLY < <(compgen -f -- "$word") && return ;;
+    'run --picture') mapfile -t COMPREPLY < <(compgen -f -- "$word") && return ;;
     'run --scratch') mapfile -t COMPREPLY < <(compgen -d -- "$word") && return ;;
     'run --cert') return ;;
     'run --report') mapfile -t COMPREPLY < <(compgen -f -- "$word") && return ;;
     'run --hints') mapfile -t COMPREPLY < <(compgen -W 'auto always never' -- "$word") && return ;;
-    'check --job') mapfile -t COMPREPLY < <(compgen -W 'words grep url index' -- "$word") && return ;;
+    'picture --out') mapfile -t COMPREPLY < <(compgen -f -- "$word") && return ;;
+    'picture --hints') mapfile -t COMPREPLY < <(compgen -W 'auto always never' -- "$word") && return ;;
+    'check --job') mapfile -t COMPREPLY < <(compgen -W 'words grep url index field' -- "$word") && return ;;
     'check --literal') return ;;
+    'check --field') return ;;
+    'check --separator') return ;;
     'check --parts') return ;;
     'check --split') return ;;
     'check --max-skips') return ;;
@@ -54,8 +63,10 @@ _mapred() {
     'verify --out') mapfile -t COMPREPLY < <(compgen -d -- "$word") && return ;;
     'verify --report') mapfile -t COMPREPLY < <(compgen -f -- "$word") && return ;;
     'verify --hints') mapfile -t COMPREPLY < <(compgen -W 'auto always never' -- "$word") && return ;;
-    'explain --job') mapfile -t COMPREPLY < <(compgen -W 'words grep url index' -- "$word") && return ;;
+    'explain --job') mapfile -t COMPREPLY < <(compgen -W 'words grep url index field' -- "$word") && return ;;
     'explain --literal') return ;;
+    'explain --field') return ;;
+    'explain --separator') return ;;
     'explain --parts') return ;;
     'explain --split') return ;;
     'explain --max-skips') return ;;
@@ -69,12 +80,13 @@ _mapred() {
     'explain --hints') mapfile -t COMPREPLY < <(compgen -W 'auto always never' -- "$word") && return ;;
     esac
     case "${COMP_WORDS[1]} $word" in
-    'seq -'*) mapfile -t COMPREPLY < <(compgen -W '--job --keep-case --literal --fold --by-host --parts --split --max-skips --from --to --out --fresh --need-pairs --skips --cert --report --hints --help' -- "$word") ;;
-    'run -'*) mapfile -t COMPREPLY < <(compgen -W '--job --keep-case --literal --fold --by-host --parts --split --max-skips --from --to --out --fresh --need-pairs --workers --attempts --script --history --scratch --cert --report --hints --help' -- "$word") ;;
-    'check -'*) mapfile -t COMPREPLY < <(compgen -W '--job --keep-case --literal --fold --by-host --parts --split --max-skips --from --to --out --threads --verdict --report --hints --help' -- "$word") ;;
+    'seq -'*) mapfile -t COMPREPLY < <(compgen -W '--job --keep-case --literal --fold --by-host --field --separator --parts --split --max-skips --from --to --out --fresh --need-pairs --skips --cert --report --hints --help' -- "$word") ;;
+    'run -'*) mapfile -t COMPREPLY < <(compgen -W '--job --keep-case --literal --fold --by-host --field --separator --parts --split --max-skips --from --to --out --fresh --need-pairs --workers --attempts --script --history --picture --scratch --cert --report --hints --help' -- "$word") ;;
+    'picture -'*) mapfile -t COMPREPLY < <(compgen -W '--out --hints --help' -- "$word") ;;
+    'check -'*) mapfile -t COMPREPLY < <(compgen -W '--job --keep-case --literal --fold --by-host --field --separator --parts --split --max-skips --from --to --out --threads --verdict --report --hints --help' -- "$word") ;;
     'merge -'*) mapfile -t COMPREPLY < <(compgen -W '--out --fresh --inputs --partial --report --hints --help' -- "$word") ;;
     'verify -'*) mapfile -t COMPREPLY < <(compgen -W '--out --with-inputs --report --hints --help' -- "$word") ;;
-    'explain -'*) mapfile -t COMPREPLY < <(compgen -W '--job --keep-case --literal --fold --by-host --parts --split --max-skips --from --to --key --none --limit --out --skips --report --hints --help' -- "$word") ;;
+    'explain -'*) mapfile -t COMPREPLY < <(compgen -W '--job --keep-case --literal --fold --by-host --field --separator --parts --split --max-skips --from --to --key --none --limit --out --skips --report --hints --help' -- "$word") ;;
     *) mapfile -t COMPREPLY < <(compgen -f -- "$word") ;;
     esac
 }
