@@ -394,4 +394,3 @@ pub fn report_text<F: Inspect>(
     text.push('\n')?;
     Ok(text)
 }
-

@@ -36,12 +36,7 @@ fn page_of(alloc: Global, title: &str, history: &[u8]) -> Result<Page, Fault>
     }
 }
 
-fn write_page<S: Store>(
-    store: &mut S,
-    alloc: Global,
-    name: &str,
-    page: &Page,
-) -> Result<(), Fault>
+fn write_page<S: Store>(store: &mut S, alloc: Global, name: &str, page: &Page) -> Result<(), Fault>
     ensures drawn { OnOk result (HasPage (S.holds store.new) name.now) }
     ensures others { ChangesAmong (S.holds store.old) (S.holds store.new) (name.now ∷ []) }
     ensures refused { IfErr result
@@ -71,11 +66,7 @@ pub fn draw<S: Store>(
 }
 
 /// The page must be another file than the history.
-fn expect_apart<S: Store>(
-    store: &S,
-    alloc: Global,
-    asked: &PictureOptions<'_>,
-) -> Result<(), Fault>
+fn expect_apart<S: Store>(store: &S, alloc: Global, asked: &PictureOptions<'_>) -> Result<(), Fault>
     ensures apart { OnOk result (IsApart (S.known_as store.now) asked.now) }
     ensures refused { IfErr result (IsShared (S.known_as store.now) asked.now) }
 {
@@ -94,11 +85,7 @@ fn line_of(alloc: Global, events: u64) -> Result<String, AllocError>
 }
 
 /// Reads a history, tests it, and draws it.
-fn draw_asked<S: Store>(
-    store: &S,
-    alloc: Global,
-    asked: &PictureOptions<'_>,
-) -> Result<Page, Fault>
+fn draw_asked<S: Store>(store: &S, alloc: Global, asked: &PictureOptions<'_>) -> Result<Page, Fault>
     ensures drawn { IfOk result (λ p. (history : List ℕ) × S.holds store.now asked.now.history.now history
         × IsApart (S.known_as store.now) asked.now × IsReadable history p.events) }
     ensures refused { IfErr result (λ e. (e ≡ Fault.OutOfMemory)
