@@ -6,11 +6,13 @@ use Rattle.std.proofs.lemmas.Bool.{ne_eqb}
 use Rattle.std.proofs.lemmas.Fmt.{decimal_injective}
 use Rattle.std.proofs.lemmas.List.{length-drop, take-append-drop, take_all}
 use Rattle.mr_bytes.specs.Cut.{Lacks}
-use Rattle.mr_jobs.specs.JobSpec.{JobSpec, WordCount, LinesWith, Resources, InvertedIndex, NthField, counts, has_lines}
+use Rattle.mr_jobs.specs.JobSpec.{JobSpec, counts, group_text_of, has_lines, is_count, is_lines}
+use Rattle.mr_jobs.specs.declared.job.GroupText.{GroupText}
+use Rattle.mr_jobs.specs.declared.job.GroupText.TheVariants.{Count, Lines, Files}
 use Rattle.mr_shards.specs.Lines.{EndsLine, after_last, lines, longer}
 use Rattle.mr_shards.proofs.LineLemmas.{there}
 use Rattle.mr_shards.proofs.ReadingLemmas.{after-last, decimal-lacks, lines-none}
-use Rattle.mr_shard_files.specs.Pairs.{EndsInCount, HaveTotal, IsSumOf, IsTotal, IsTotalOf, StateTogether, States, TotalFits}
+use Rattle.mr_shard_files.specs.Pairs.{EndsInCount, HaveTotal, IsSumOf, IsTotal, IsTotalOf, StateTogether, States, StatesFor, TotalFits, UnlessFiles}
 
 -- ---- the lines up to a line feed
 
@@ -60,40 +62,30 @@ count_one : (line : List ℕ) (k m : ℕ) → EndsInCount line k → EndsInCount
 count_one line k m h g =
     decimal_injective k m h.0 g.0 (sym (last_number line h.1.0 (decimal k) h.1.1 (no_tab k h.0)) ∙ last_number line g.1.0 (decimal m) g.1.1 (no_tab m g.0))
 
-states_one : (job : JobSpec) (line : List ℕ) (k m : ℕ) → States job line k → States job line m → k ≡ m
-states_one (WordCount keep) line k m h g = count_one line k m h g
-states_one (LinesWith literal fold) line k m h g = h ∙ sym g
-states_one Resources line k m h g = count_one line k m h g
-states_one (NthField separator number) line k m h g = count_one line k m h g
-states_one (InvertedIndex keep) line k m h g = h ∙ sym g
+states_one : (form : GroupText) (line : List ℕ) (k m : ℕ) → StatesFor form line k → StatesFor form line m → k ≡ m
+states_one Count line k m h g = count_one line k m h g
+states_one Lines line k m h g = h ∙ sym g
+states_one Files line k m h g = h ∙ sym g
 
-states_count : (job : JobSpec) (line : List ℕ) (n : ℕ) → counts job ≡ true → EndsInCount line n → States job line n
-states_count (WordCount keep) line n e h = h
-states_count (LinesWith literal fold) line n e h = absurd (cc)
-states_count Resources line n e h = h
-states_count (NthField separator number) line n e h = h
-states_count (InvertedIndex keep) line n e h = absurd (cc)
+states_count : (form : GroupText) (line : List ℕ) (n : ℕ) → is_count form ≡ true → EndsInCount line n → StatesFor form line n
+states_count Count line n e h = h
+states_count Lines line n e h = absurd (cc e)
+states_count Files line n e h = absurd (cc e)
 
-count_stated : (job : JobSpec) (line : List ℕ) (n : ℕ) → counts job ≡ true → States job line n → EndsInCount line n
-count_stated (WordCount keep) line n e h = h
-count_stated (LinesWith literal fold) line n e h = absurd (cc)
-count_stated Resources line n e h = h
-count_stated (NthField separator number) line n e h = h
-count_stated (InvertedIndex keep) line n e h = absurd (cc)
+count_stated : (form : GroupText) (line : List ℕ) (n : ℕ) → is_count form ≡ true → StatesFor form line n → EndsInCount line n
+count_stated Count line n e h = h
+count_stated Lines line n e h = absurd (cc e)
+count_stated Files line n e h = absurd (cc e)
 
-pub one_stated : (job : JobSpec) (line : List ℕ) → counts job ≡ false → has_lines job ≡ true → States job line 1
-one_stated (WordCount keep) line e h = absurd (cc)
-one_stated (LinesWith literal fold) line e h = refl
-one_stated Resources line e h = absurd (cc)
-one_stated (NthField separator number) line e h = absurd (cc)
-one_stated (InvertedIndex keep) line e h = absurd (cc)
+pub one_stated : (form : GroupText) (line : List ℕ) → is_lines form ≡ true → StatesFor form line 1
+one_stated Count line h = absurd (cc h)
+one_stated Lines line h = refl
+one_stated Files line h = absurd (cc h)
 
-pub none_stated : (job : JobSpec) (line : List ℕ) → counts job ≡ false → has_lines job ≡ false → States job line 0
-none_stated (WordCount keep) line e h = absurd (cc)
-none_stated (LinesWith literal fold) line e h = absurd (cc)
-none_stated Resources line e h = absurd (cc)
-none_stated (NthField separator number) line e h = absurd (cc)
-none_stated (InvertedIndex keep) line e h = refl
+pub none_stated : (form : GroupText) (line : List ℕ) → is_count form ≡ false → is_lines form ≡ false → StatesFor form line 0
+none_stated Count line e h = absurd (cc e)
+none_stated Lines line e h = absurd (cc h)
+none_stated Files line e h = refl
 
 -- this is the number that a line states, or none fits
 abbrev pub IsStated : JobSpec → List ℕ → Option ℕ → Type 0
@@ -101,13 +93,13 @@ IsStated job line r = MatchOption r ((n : ℕ) → n < 2 ^ 64 → States job lin
 
 pub number_stated : (job : JobSpec) (line key digits : List ℕ) (r : Option ℕ) → counts job ≡ true → line ≡ key ++ 9 ∷ digits → Lacks 9 digits → IfSome r (λ n. n < 2 ^ 64)
     → MatchOption r ((n : ℕ) → n < 2 ^ 64 → digits ≡ decimal n → ⊥) (λ n. digits ≡ decimal n) → IsStated job line r
-number_stated job line key digits (Some n) e is clear small h = states_count job line n e (small, (key, is ∙ ap (λ d. key ++ 9 ∷ d) h))
+number_stated job line key digits (Some n) e is clear small h = states_count (group_text_of job) line n e (small, (key, is ∙ ap (λ d. key ++ 9 ∷ d) h))
 number_stated job line key digits None e is clear small h = λ n less s.
-    let c = count_stated job line n e s in
+    let c = count_stated (group_text_of job) line n e s in
     h n less (sym (last_number line key digits is clear) ∙ last_number line c.1.0 (decimal n) c.1.1 (no_tab n less))
 
 pub none_without : (job : JobSpec) (line : List ℕ) → counts job ≡ true → Lacks 9 line → IsStated job line None
-none_without job line e clear = λ n small s. let c = count_stated job line n e s in there 9 line c.1.0 (decimal n) c.1.1 clear
+none_without job line e clear = λ n small s. let c = count_stated (group_text_of job) line n e s in there 9 line c.1.0 (decimal n) c.1.1 clear
 
 -- ---- sums
 
@@ -145,7 +137,7 @@ module _ (job : JobSpec) where
 
   together_one : (ls : List (List ℕ)) (k m : ℕ) → StateTogether job ls k → StateTogether job ls m → k ≡ m
   together_one [] k m h g = h ∙ sym g
-  together_one (l ∷ ls) k m h g = omega (arith, states_one job l h.0 g.0 h.2 g.2, together_one ls h.1 g.1 h.3 g.3, h.4, g.4)
+  together_one (l ∷ ls) k m h g = omega (arith, states_one (group_text_of job) l h.0 g.0 h.2 g.2, together_one ls h.1 g.1 h.3 g.3, h.4, g.4)
 
   pub total_more : (ls ms : List (List ℕ)) (a b r : Option ℕ) → IsTotal job ls a → IsTotal job ms b → IsSumOf a b r → IsTotal job (ls ++ ms) r
   total_more ls ms a b r h g s = sum_is (StateTogether job) together_on together_back together_one ls ms a b r h g s
@@ -243,29 +235,23 @@ module _ (job : JobSpec) (passed held : List ℕ) (k : ℕ) (a b r : Option ℕ)
 
 -- ---- the total of a verdict
 
-pub total_fits : (job : JobSpec) (texts : List (List ℕ)) (n : ℕ) → HaveTotal job texts n → TotalFits job texts n
-total_fits (WordCount keep) texts n h = h
-total_fits (LinesWith literal fold) texts n h = h
-total_fits Resources texts n h = h
-total_fits (NthField separator number) texts n h = h
-total_fits (InvertedIndex keep) texts n h = tt
+pub total_fits : (form : GroupText) {fact : Type 0} → fact → UnlessFiles form fact
+total_fits Count h = h
+total_fits Lines h = h
+total_fits Files h = tt
 
-pub index_fits : (job : JobSpec) (texts : List (List ℕ)) (n : ℕ) → counts job ≡ false → has_lines job ≡ false → TotalFits job texts n
-index_fits (WordCount keep) texts n e h = absurd (cc)
-index_fits (LinesWith literal fold) texts n e h = absurd (cc)
-index_fits Resources texts n e h = absurd (cc)
-index_fits (NthField separator number) texts n e h = absurd (cc)
-index_fits (InvertedIndex keep) texts n e h = tt
+pub index_fits : (form : GroupText) (fact : Type 0) → is_count form ≡ false → is_lines form ≡ false → UnlessFiles form fact
+index_fits Count fact e h = absurd (cc e)
+index_fits Lines fact e h = absurd (cc h)
+index_fits Files fact e h = tt
 
-fits_total : (job : JobSpec) (texts : List (List ℕ)) (n : ℕ) → (counts job ≡ true) ⊎ (has_lines job ≡ true) → TotalFits job texts n → HaveTotal job texts n
-fits_total (WordCount keep) texts n w h = h
-fits_total (LinesWith literal fold) texts n w h = h
-fits_total Resources texts n w h = h
-fits_total (NthField separator number) texts n w h = h
-fits_total (InvertedIndex keep) texts n (inl e) h = absurd (cc)
-fits_total (InvertedIndex keep) texts n (inr e) h = absurd (cc)
+fits_total : (form : GroupText) {fact : Type 0} → (is_count form ≡ true) ⊎ (is_lines form ≡ true) → UnlessFiles form fact → fact
+fits_total Count w h = h
+fits_total Lines w h = h
+fits_total Files (inl e) h = absurd (cc e)
+fits_total Files (inr e) h = absurd (cc e)
 
 pub other_total : (job : JobSpec) (texts : List (List ℕ)) (t : Option ℕ) (n : ℕ) → (counts job ≡ true) ⊎ (has_lines job ≡ true) → n < 2 ^ 64 → IsTotalOf job texts t
     → (t ≡ Some n → ⊥) → TotalFits job texts n → ⊥
-other_total job texts (Some m) n w small h f g = f (ap Some (have_one job texts m n h (fits_total job texts n w g)))
-other_total job texts None n w small h f g = h n small (fits_total job texts n w g)
+other_total job texts (Some m) n w small h f g = f (ap Some (have_one job texts m n h (fits_total (group_text_of job) w g)))
+other_total job texts None n w small h f g = h n small (fits_total (group_text_of job) w g)

@@ -4,13 +4,15 @@ use Rattle.std.specs.Prelude.{decimal, slice_index_or}
 use Rattle.std.specs.List.{AllByRecursion, flat_map}
 use Rattle.mr_bytes.specs.declared.Value.TheVariants.{At}
 use Rattle.mr_bytes.specs.Cut.{Lacks}
-use Rattle.mr_jobs.specs.JobSpec.{JobSpec, WordCount, LinesWith, Resources, InvertedIndex, NthField}
+use Rattle.mr_jobs.specs.JobSpec.{JobSpec, group_text_of}
+use Rattle.mr_jobs.specs.declared.job.GroupText.{GroupText}
+use Rattle.mr_jobs.specs.declared.job.GroupText.TheVariants.{Count, Lines, Files}
 use Rattle.mr_reduce.specs.Text.{comma_separated, files_line, files_of, place_line}
 use Rattle.mr_shards.specs.declared.cursor.Held.{Held}
 use Rattle.mr_shards.specs.declared.merger.ShardText.{ShardText}
 use Rattle.mr_shards.specs.Cursors.{IsSum, all_pairs, pairs_in}
 use Rattle.mr_shards.specs.Lines.{EndsLine, HasLine, groups_in, lines}
-use Rattle.mr_shards.specs.Merged.{Group, group_text, texts}
+use Rattle.mr_shards.specs.Merged.{Group, group_text_for, texts}
 use Rattle.mr_shards.specs.Refused.{IsRest, IsShardText, text_at}
 use Rattle.mr_shards.specs.Rounds.{pairs_held}
 use Rattle.mr_shards.specs.Verdict.{Told}
@@ -20,15 +22,15 @@ use Rattle.mr_shards.proofs.RefusedLemmas.{have-lines}
 use Rattle.mr_shard_files.specs.declared.fault.ShardFault.{ShardFault}
 use Rattle.mr_shard_files.specs.declared.fault.ShardFault.TheVariants.{OtherTotal}
 use Rattle.mr_shard_files.specs.Beside.{AreOutputs}
-use Rattle.mr_shard_files.specs.Pairs.{HaveTotal, IsOtherPairs, IsTotalOf, IsUnfit, StateTogether, States, total_at}
+use Rattle.mr_shard_files.specs.Pairs.{HaveTotal, IsOtherPairs, IsTotalOf, IsUnfit, StateTogether, StatesFor, total_at}
 use Rattle.mr_shard_files.proofs.PairLemmas.{have_one}
 
 -- the line of a group, which states its pairs
-record IsLine (job : JobSpec) (g : Group) : Type 0 where
+record IsLine (form : GroupText) (g : Group) : Type 0 where
   pub line : List ℕ
   pub clear : Lacks 10 line
-  pub states : States job line (pairs_in job g)
-  pub text : (rest : List ℕ) → group_text job g ++ rest ≡ line ++ 10 ∷ rest
+  pub states : StatesFor form line (pairs_in form g)
+  pub text : (rest : List ℕ) → group_text_for form g ++ rest ≡ line ++ 10 ∷ rest
 
 -- no line feed in a key, and none in what a line tells behind its tab
 clear_behind : (key told : List ℕ) → Lacks 10 key → Lacks 10 told → Lacks 10 (key ++ 9 ∷ told)
@@ -37,8 +39,8 @@ clear_behind key told h k = Lacks-append 10 key (9 ∷ told) h (λ e. omega (ari
 no_feed : (n : ℕ) → n < 2 ^ 64 → Lacks 10 (decimal n)
 no_feed n small = decimal-lacks 10 n (λ h. omega (arith, h.0)) small
 
-line_of : (job : JobSpec) (g : Group) → HasLine job g → IsLine job g
-line_of (WordCount keep_case) g h =
+line_of : (form : GroupText) (g : Group) → HasLine form g → IsLine form g
+line_of Count g h =
     let n = length g.values in
     record {
       line = g.key ++ 9 ∷ decimal n;
@@ -46,23 +48,7 @@ line_of (WordCount keep_case) g h =
       states = (h.1, (g.key, refl));
       text = total-first g.key n;
     }
-line_of Resources g h =
-    let n = length g.values in
-    record {
-      line = g.key ++ 9 ∷ decimal n;
-      clear = clear_behind g.key (decimal n) h.0 (no_feed n h.1);
-      states = (h.1, (g.key, refl));
-      text = total-first g.key n;
-    }
-line_of (NthField separator number) g h =
-    let n = length g.values in
-    record {
-      line = g.key ++ 9 ∷ decimal n;
-      clear = clear_behind g.key (decimal n) h.0 (no_feed n h.1);
-      states = (h.1, (g.key, refl));
-      text = total-first g.key n;
-    }
-line_of (LinesWith literal fold) g h =
+line_of Lines g h =
     let w = h.1 in
     let told : List ℕ = decimal w.0 ++ 58 ∷ decimal w.1 in
     record {
@@ -71,7 +57,7 @@ line_of (LinesWith literal fold) g h =
       states = ap length w.4;
       text = λ rest. ap (λ l. l ++ rest) (ap (flat_map (place_line g.key)) w.4 ∙ append-nil (place_line g.key (At w.0 w.1))) ∙ place-first g.key w.0 w.1 rest;
     }
-line_of (InvertedIndex keep_case) g h =
+line_of Files g h =
     let w = h.1 in
     let told : List ℕ = comma_separated (w.0 ∷ w.1) in
     record {
@@ -86,16 +72,16 @@ unfolding all_pairs
 no_pairs job = refl
 
 -- so lines of the job do together
-lines_state : (job : JobSpec) (gs : List Group) → AllByRecursion (HasLine job) gs → EndsLine (texts job gs) × StateTogether job (lines (texts job gs)) (all_pairs job gs)
+lines_state : (job : JobSpec) (gs : List Group) → AllByRecursion (HasLine (group_text_of job)) gs → EndsLine (texts job gs) × StateTogether job (lines (texts job gs)) (all_pairs job gs)
 lines_state job [] all = (inl refl, subst (λ ls. StateTogether job ls (all_pairs job [])) (sym lines-none) (no_pairs job))
 lines_state job (g ∷ gs) all =
-    let l = line_of job g all.0 in
+    let l = line_of (group_text_of job) g all.0 in
     let rest : List ℕ = texts job gs in
     let behind = lines_state job gs all.1 in
     let whole : texts job (g ∷ gs) ≡ l.line ++ 10 ∷ rest = l.text rest in (
       ends l.line rest whole behind.0,
       subst (λ ls. StateTogether job ls (all_pairs job (g ∷ gs))) (sym (ap lines whole ∙ lines-next l.line rest l.clear))
-          (pairs_in job g, all_pairs job gs, l.states, behind.1, pairs-cons job g gs),
+          (pairs_in (group_text_of job) g, all_pairs job gs, l.states, behind.1, pairs-cons job g gs),
     )
   where
     ends : {text : List ℕ} (line rest : List ℕ) → text ≡ line ++ 10 ∷ rest → EndsLine rest → EndsLine text

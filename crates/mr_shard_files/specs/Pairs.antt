@@ -1,7 +1,9 @@
 -- Pairs that lines of outputs state.
 use Rattle.std.specs.Prelude.{◌≡◌, ℕ, ◌+◌, ◌<◌, ◌≤◌, ◌^◌, ⊤, List, [], ◌∷◌, ◌++◌, Option, None, Some, MatchOption, decimal, length, slice_index_or}
 use Rattle.std.specs.List.{AllByRecursion, flat_map}
-use Rattle.mr_jobs.specs.JobSpec.{JobSpec, WordCount, LinesWith, Resources, InvertedIndex, NthField}
+use Rattle.mr_jobs.specs.JobSpec.{JobSpec, group_text_of}
+use Rattle.mr_jobs.specs.declared.job.GroupText.{GroupText}
+use Rattle.mr_jobs.specs.declared.job.GroupText.TheVariants.{Count, Lines, Files}
 use Rattle.mr_shards.specs.declared.cursor.Held.{Held}
 use Rattle.mr_shards.specs.Joined.{verdict_at}
 use Rattle.mr_shards.specs.Lines.{EndsLine, lines}
@@ -14,12 +16,13 @@ abbrev pub EndsInCount : List ℕ → ℕ → Type 0
 EndsInCount line n = (n < 2 ^ 64) × ((key : List ℕ) × (line ≡ key ++ 9 ∷ decimal n))
 
 -- the line states so many pairs: its count, or one; a line of an index states none
+abbrev pub StatesFor : GroupText → List ℕ → ℕ → Type 0
+StatesFor Count line n = EndsInCount line n
+StatesFor Lines line n = n ≡ 1
+StatesFor Files line n = n ≡ 0
+
 abbrev pub States : JobSpec → List ℕ → ℕ → Type 0
-States (WordCount keep_case) line n = EndsInCount line n
-States (LinesWith literal fold) line n = n ≡ 1
-States Resources line n = EndsInCount line n
-States (NthField separator number) line n = EndsInCount line n
-States (InvertedIndex keep_case) line n = n ≡ 0
+States job line n = StatesFor (group_text_of job) line n
 
 -- the lines state so many together
 abbrev pub StateTogether : JobSpec → List (List ℕ) → ℕ → Type 0
@@ -39,12 +42,13 @@ abbrev pub IsTotalOf : JobSpec → List (List ℕ) → Option ℕ → Type 0
 IsTotalOf job texts total = MatchOption total ((n : ℕ) → n < 2 ^ 64 → HaveTotal job texts n → ⊥) (HaveTotal job texts)
 
 -- so many pairs are what the texts state; those of an index tell no number of pairs
+abbrev pub UnlessFiles : GroupText → Type 0 → Type 0
+UnlessFiles Count fact = fact
+UnlessFiles Lines fact = fact
+UnlessFiles Files fact = ⊤
+
 abbrev pub TotalFits : JobSpec → List (List ℕ) → ℕ → Type 0
-TotalFits (WordCount keep_case) texts n = HaveTotal (WordCount keep_case) texts n
-TotalFits (LinesWith literal fold) texts n = HaveTotal (LinesWith literal fold) texts n
-TotalFits Resources texts n = HaveTotal Resources texts n
-TotalFits (NthField separator number) texts n = HaveTotal (NthField separator number) texts n
-TotalFits (InvertedIndex keep_case) texts n = ⊤
+TotalFits job texts n = UnlessFiles (group_text_of job) (HaveTotal job texts n)
 
 -- the lines of a shard's parts state the pairs that its verdict tells
 abbrev pub StatesPairs : JobSpec → List Told → List (List (List ℕ)) → ℕ → Type 0

@@ -1,5 +1,5 @@
 -- Groups whose lines are alike, merged and moved.
-use Rattle.std.proofs.Common.{◌≡◌, ℕ, Bool, ◌+◌, List, [], ◌∷◌, ◌++◌, map, refl, sym, ◌∙◌, ap, subst, inl, inr}
+use Rattle.std.proofs.Common.{◌≡◌, ℕ, ◌+◌, List, [], ◌∷◌, ◌++◌, map, refl, sym, ◌∙◌, ap, subst, inl, inr}
 use Rattle.std.proofs.lemmas.Grind.{flat_map-append}
 use Rattle.std.specs.List.{flat_map}
 use Rattle.std.specs.Ordering.{match_ordering}
@@ -9,11 +9,11 @@ use Rattle.mr_bytes.specs.declared.Value.{Value}
 use Rattle.mr_bytes.specs.Lists.{Has}
 use Rattle.mr_bytes.specs.Order.{key_order}
 use Rattle.mr_bytes.proofs.ListLaws.{Has-append_cases, Has-append_left, Has-append_right, Has-map, Has-map_from, same_rising}
-use Rattle.mr_jobs.specs.JobSpec.{InvertedIndex}
+use Rattle.mr_jobs.specs.declared.job.GroupText.TheVariants.{Files}
 use Rattle.mr_reduce.specs.Text.{file_in, files_line, files_of}
 use Rattle.mr_reduce.proofs.FileLemmas.{files_rise}
 use Rattle.std.proofs.lemmas.Cmp.{nat_cmp_total}
-use Rattle.mr_shards.specs.Merged.{Group, joined, merged, texts, with_group}
+use Rattle.mr_shards.specs.Merged.{Group, joined, merged, texts_for, with_group}
 use Rattle.mr_shards.specs.Portions.{Part, Shift, merged_portions, shifted_group, shifted_value}
 use Rattle.mr_shards.specs.Lines.{places_in}
 use Rattle.mr_shards.proofs.FileNumberLemmas.{files-shifted, sorted-in, told-in}
@@ -102,14 +102,14 @@ same-files vs ws a =
     same_rising nat_cmp_total (files_of vs) (files_of ws) (files_rise vs) (files_rise ws)
     (λ f h. sorted-in ws f (a.there f (told-in vs f h))) (λ f h. sorted-in vs f (a.back f (told-in ws f h)))
 
-pub alike-texts : (keep_case : Bool) (gs hs : List Group) → AreAlike gs hs → texts (InvertedIndex keep_case) gs ≡ texts (InvertedIndex keep_case) hs
-alike-texts keep_case [] [] a = refl
-alike-texts keep_case [] (h ∷ hs) a = absurd a
-alike-texts keep_case (g ∷ gs) [] a = absurd a
-alike-texts keep_case (g ∷ gs) (h ∷ hs) a =
-    ap (λ k. files_line k (files_of g.values) ++ texts (InvertedIndex keep_case) gs) a.0
-    ∙ ap (λ fs. files_line h.key fs ++ texts (InvertedIndex keep_case) gs) (same-files g.values h.values a.1)
-    ∙ ap (λ l. files_line h.key (files_of h.values) ++ l) (alike-texts keep_case gs hs a.2)
+pub alike-texts : (gs hs : List Group) → AreAlike gs hs → texts_for Files gs ≡ texts_for Files hs
+alike-texts [] [] a = refl
+alike-texts [] (h ∷ hs) a = absurd a
+alike-texts (g ∷ gs) [] a = absurd a
+alike-texts (g ∷ gs) (h ∷ hs) a =
+    ap (λ k. files_line k (files_of g.values) ++ texts_for Files gs) a.0
+    ∙ ap (λ fs. files_line h.key fs ++ texts_for Files gs) (same-files g.values h.values a.1)
+    ∙ ap (λ l. files_line h.key (files_of h.values) ++ l) (alike-texts gs hs a.2)
 
 files-of_places : (fs : List ℕ) → flat_map file_in (places_in fs) ≡ fs
 files-of_places [] = refl

@@ -3,7 +3,10 @@ use Rattle.std.proofs.Common.{◌≡◌, ℕ, ◌+◌, ◌^◌, ◌%◌, ◌++�
 use Rattle.std.proofs.lemmas.List.{append_assoc, append_cancel_left, length-append, length-map, length-replicate}
 use Rattle.std.proofs.lemmas.Bool.{cases_lt, lt-ltb, le-ltb}
 use Rattle.std.specs.List.{AllByRecursion}
-use Rattle.mr_jobs.specs.JobSpec.{JobSpec, WordCount, LinesWith, Resources, InvertedIndex, NthField}
+use Rattle.mr_bytes.specs.declared.Value.TheVariants.{One}
+use Rattle.mr_jobs.specs.JobSpec.{JobSpec, group_text_of}
+use Rattle.mr_jobs.specs.declared.job.GroupText.{GroupText}
+use Rattle.mr_jobs.specs.declared.job.GroupText.TheVariants.{Count, Lines, Files as Listing}
 use Rattle.mr_shards.specs.declared.cursor.Cursor.{Cursor}
 use Rattle.mr_shards.specs.declared.cursor.Held.{Held}
 use Rattle.mr_shards.specs.declared.line.Line.{Line}
@@ -11,18 +14,18 @@ use Rattle.mr_shards.specs.declared.merger.MergeFault.{MergeFault}
 use Rattle.mr_shards.specs.declared.line.Tally.{Tally}
 use Rattle.mr_shards.specs.declared.line.Tally.TheVariants.{Total, Place, Files}
 use Rattle.mr_shards.specs.Cursors.{BlamesNext, HasFront, IsAtLine, IsSum, IsWholeHead, all_pairs, on, pairs_in, pairs_told, passed, passed_with, with_pairs}
-use Rattle.mr_shards.specs.Lines.{group_in, groups_in}
+use Rattle.mr_shards.specs.Lines.{groups_in}
 use Rattle.mr_shards.specs.Merged.{Group, group_text, texts}
 use Rattle.mr_shards.specs.Portions.{Shift, shifted_group, shifted_value}
 use Rattle.mr_shards.specs.Refused.{AreInFiles, BlamesOnly, Follows, InTurn, IsLineOf, IsReadTo, IsRest, MayFollow, NoLineFollows, TellsFiles, last_key, lines_read, lines_with}
-use Rattle.mr_shards.specs.Views.{BeginsWithLine, IsFor, group_of, values_of}
+use Rattle.mr_shards.specs.Views.{BeginsWithLine, IsFor, IsTallyFor, group_of, values_of}
 use Rattle.mr_bytes.specs.Cut.{Lacks}
 use Rattle.mr_shards.proofs.LineLemmas.{there}
-use Rattle.mr_shards.proofs.ReadingLemmas.{lines-none}
+use Rattle.mr_shards.proofs.ReadingLemmas.{none-read}
 use Rattle.mr_shards.proofs.RefusedLemmas.{front-read, front-text, none-begins, read-end, read-line, rest-before, weaker}
 
 pub no-groups : (job : JobSpec) → groups_in job [] ≡ []
-no-groups job = ap (map (group_in job)) lines-none
+no-groups job = none-read (group_text_of job)
 
 -- a cursor at a line, or at the end
 abbrev pub cursor-at : Held → Option Line → List ℕ → List ℕ → Bool → Cursor
@@ -118,45 +121,32 @@ at-end job h text rest is_last none end =
 
 -- ---- pairs
 
-pub pairs-cons : (job : JobSpec) (g : Group) (gs : List Group) → all_pairs job (g ∷ gs) ≡ pairs_in job g + all_pairs job gs
+pub pairs-cons : (job : JobSpec) (g : Group) (gs : List Group) → all_pairs job (g ∷ gs) ≡ pairs_in (group_text_of job) g + all_pairs job gs
 unfolding all_pairs
 pairs-cons job g gs = refl
 
-one-moved : (job : JobSpec) (s : Shift) (g : Group) → pairs_in job (shifted_group s g) ≡ pairs_in job g
-one-moved (WordCount keep_case) s g = length-map g.values (shifted_value s)
-one-moved (LinesWith literal fold) s g = length-map g.values (shifted_value s)
-one-moved Resources s g = length-map g.values (shifted_value s)
-one-moved (NthField separator number) s g = length-map g.values (shifted_value s)
-one-moved (InvertedIndex keep_case) s g = refl
+one-moved : (form : GroupText) (s : Shift) (g : Group) → pairs_in form (shifted_group s g) ≡ pairs_in form g
+one-moved Count s g = length-map g.values (shifted_value s)
+one-moved Lines s g = length-map g.values (shifted_value s)
+one-moved Listing s g = refl
 
 pub pairs-moved : (job : JobSpec) (s : Shift) (gs : List Group) → all_pairs job (map (shifted_group s) gs) ≡ all_pairs job gs
 unfolding all_pairs
 pairs-moved job s [] = refl
-pairs-moved job s (g ∷ gs) = λ i. one-moved job s g i + pairs-moved job s gs i
+pairs-moved job s (g ∷ gs) = λ i. one-moved (group_text_of job) s g i + pairs-moved job s gs i
 
 -- what a line states is what its group has
-pub told-pairs : (job : JobSpec) (l : Line) → IsFor job l.tally → pairs_told l.tally ≡ pairs_in job (group_of l)
-told-pairs job l kind = by job l.tally refl kind
+pub told-pairs : (job : JobSpec) (l : Line) → IsFor job l.tally → pairs_told l.tally ≡ pairs_in (group_text_of job) (group_of l)
+told-pairs job l kind = by (group_text_of job) l.tally kind
   where
-    by : (j : JobSpec) (t : Tally) → l.tally ≡ t → IsFor j t → pairs_told l.tally ≡ pairs_in j (group_of l)
-    by (WordCount keep_case) (Total n) e k = ap pairs_told e ∙ sym (ap (λ (t : Tally). length (values_of t)) e ∙ length-replicate n _)
-    by (WordCount keep_case) (Place file offset) e k = absurd k
-    by (WordCount keep_case) (Files list last moved) e k = absurd k
-    by (LinesWith literal fold) (Total n) e k = absurd k
-    by (LinesWith literal fold) (Place file offset) e k = ap pairs_told e ∙ sym (ap (λ (t : Tally). length (values_of t)) e)
-    by (LinesWith literal fold) (Files list last moved) e k = absurd k
-    by Resources (Total n) e k = ap pairs_told e ∙ sym (ap (λ (t : Tally). length (values_of t)) e ∙ length-replicate n _)
-    by (NthField separator number) (Total n) e k = ap pairs_told e ∙ sym (ap (λ (t : Tally). length (values_of t)) e ∙ length-replicate n _)
-    by Resources (Place file offset) e k = absurd k
-    by (NthField separator number) (Place file offset) e k = absurd k
-    by Resources (Files list last moved) e k = absurd k
-    by (NthField separator number) (Files list last moved) e k = absurd k
-    by (InvertedIndex keep_case) (Total n) e k = absurd k
-    by (InvertedIndex keep_case) (Place file offset) e k = absurd k
-    by (InvertedIndex keep_case) (Files list last moved) e k = ap pairs_told e
+    by : (form : GroupText) (t : Tally) → IsTallyFor form t → pairs_told t ≡ pairs_in form (record { key = l.key.now; values = values_of t })
+    by Count (Total n) k = sym (length-replicate n One)
+    by Lines (Place file offset) k = refl
+    by Listing (Files list last moved) k = refl
+    by form t k = absurd k
 
 -- the pairs behind a line are those before it, with its own
-pub sum-behind : (job : JobSpec) (o : Option ℕ) (n : ℕ) (g : Group) (gs all : List Group) → n ≡ pairs_in job g → IsSum job o (g ∷ gs) all → IsSum job (with_pairs o n) gs all
+pub sum-behind : (job : JobSpec) (o : Option ℕ) (n : ℕ) (g : Group) (gs all : List Group) → n ≡ pairs_in (group_text_of job) g → IsSum job o (g ∷ gs) all → IsSum job (with_pairs o n) gs all
 sum-behind job None n g gs all e s = s
 sum-behind job (Some m) n g gs all e s =
     let whole : m + (n + all_pairs job gs) ≡ all_pairs job all = ap (λ k. m + (k + all_pairs job gs)) e ∙ ap (λ k. m + k) (sym (pairs-cons job g gs)) ∙ s in

@@ -6,7 +6,9 @@ use Rattle.std.proofs.Common.{◌^◌, Bool, true, false, map, replicate}
 use Rattle.std.specs.Prelude.{decimal}
 use Rattle.std.proofs.lemmas.List.{length-replicate, append-nil}
 use Rattle.mr_bytes.specs.declared.Value.TheVariants.{One, At}
-use Rattle.mr_jobs.specs.JobSpec.{JobSpec, WordCount, LinesWith, Resources, InvertedIndex, NthField, counts, has_lines}
+use Rattle.mr_jobs.specs.JobSpec.{JobSpec, group_text_of, is_count, is_lines}
+use Rattle.mr_jobs.specs.declared.job.GroupText.{GroupText}
+use Rattle.mr_jobs.specs.declared.job.GroupText.TheVariants.{Count, Lines, Files as Listing}
 use Rattle.std.specs.Ordering.{nat_cmp}
 use Rattle.mr_bytes.specs.Lists.{Rises}
 use Rattle.mr_reduce.specs.Text.{comma_separated, files_line, place_line, total_line}
@@ -19,15 +21,15 @@ use Rattle.std.proofs.Common.{◌≢◌}
 use Rattle.mr_jobs.specs.Url.{before_byte}
 use Rattle.mr_bytes.specs.Lists.{Has}
 use Rattle.mr_shards.specs.Refused.{AreInFiles}
-use Rattle.mr_shards.specs.Lines.{after_first, after_last, groups_in, numbers_in, places_in}
-use Rattle.mr_shards.specs.Merged.{group_text}
+use Rattle.mr_shards.specs.Lines.{after_first, after_last, groups_for, numbers_in, places_in}
+use Rattle.mr_shards.specs.Merged.{group_text_for}
 use Rattle.std.proofs.Common.{not}
 use Rattle.mr_sequential.proofs.KeyLaws.{bytes_eq-is}
 use Rattle.std.specs.Str.{bytes_eq}
-use Rattle.mr_shards.specs.Views.{BeginsWithLine, IsListTo, IsParsed, IsFor, IsUnshifted, values_of}
+use Rattle.mr_shards.specs.Views.{BeginsWithLine, IsListTo, IsParsedFor, IsTallyFor, IsUnshifted, values_of}
 use Rattle.mr_shards.specs.declared.line.Tally.{Tally}
 use Rattle.mr_shards.specs.declared.line.Tally.TheVariants.{Total, Place, Files}
-use Rattle.mr_shards.proofs.ReadingLemmas.{files-are, index-line, line-text, numbers_read, separated-lack, total-read, place-read, total-first, place-first, value-of, decimal-lacks, Lacks-append, before-first, after-first, after-last}
+use Rattle.mr_shards.proofs.ReadingLemmas.{files-are, index-line, line-text, numbers_read, separated-lack, total-read, place-read, total-first, place-first, decimal-lacks, Lacks-append, before-first, after-first, after-last}
 use Rattle.mr_shards.specs.Portions.{Shift, no_shift, shifted_value}
 use Rattle.mr_bytes.specs.Cut.{Lacks}
 
@@ -50,13 +52,6 @@ pub replicate-moved : (s : Shift) (n : ℕ) → replicate n One ≡ map (shifted
 replicate-moved s zero = refl
 replicate-moved s (suc n) = ap (λ l. One ∷ l) (replicate-moved s n)
 
-pub total_told : (job : JobSpec) (key : List ℕ) (n : ℕ) → counts job ≡ true → group_text job (record { key = key; values = replicate n One }) ≡ total_line key n
-total_told (WordCount keep_case) key n e = ap (total_line key) (length-replicate n One)
-total_told (LinesWith literal fold) key n e = absurd cc
-total_told Resources key n e = ap (total_line key) (length-replicate n One)
-total_told (NthField separator number) key n e = ap (total_line key) (length-replicate n One)
-total_told (InvertedIndex keep_case) key n e = absurd cc
-
 pub Lacks-front : (b : ℕ) (xs ys : List ℕ) → Lacks b (xs ++ ys) → Lacks b xs
 Lacks-front b [] ys h = tt
 Lacks-front b (x ∷ xs) ys h = (h.0, Lacks-front b xs ys h.1)
@@ -72,9 +67,6 @@ cut-clear text line key told rest h = Lacks-front 10 key (9 ∷ told) (subst (La
 
 cut-whole : (text line key told rest t : List ℕ) → IsCut text line key told rest → told ≡ t → text ≡ (key ++ 9 ∷ t) ++ 10 ∷ rest
 cut-whole text line key told rest t h e = h.first ∙ ap (λ l. l ++ 10 ∷ rest) (h.last ∙ ap (λ l. key ++ 9 ∷ l) e)
-
-told-places : (literal : List ℕ) (fold : Bool) (key : List ℕ) (file offset : ℕ) → place_line key (At file offset) ≡ group_text (LinesWith literal fold) (record { key = key; values = At file offset ∷ [] })
-told-places literal fold key file offset = sym (append-nil (place_line key (At file offset)))
 
 -- the files that a list names, as places
 numbers-small : (n : ℕ) (ns : List ℕ) → n ≤ 2 ^ 32 → AllByRecursion (λ m. m < n) ns → AllByRecursion (λ m. m < 2 ^ 64) ns
@@ -109,95 +101,47 @@ list-told list last moved told is = by is.2.1.0 is.2.1.1.some is.2.1.1.rise (num
     )
 
 -- its text
-pub cut-text : (job : JobSpec) (t : Tally) (text line key told rest : List ℕ) → IsCut text line key told rest → IsParsed job t told
-    → text ≡ group_text job (record { key = key; values = values_of t }) ++ rest
-cut-text (WordCount keep_case) (Total n) text line key told rest h is =
-    cut-whole text line key told rest (decimal n) h is.0 ∙ sym (total-first key n rest) ∙ ap (λ l. l ++ rest) (sym (total_told (WordCount keep_case) key n refl))
-cut-text (WordCount keep_case) (Place file offset) text line key told rest h is = absurd is
-cut-text (WordCount keep_case) (Files list last moved) text line key told rest h is = absurd is
-cut-text (LinesWith literal fold) (Total n) text line key told rest h is = absurd is
-cut-text (LinesWith literal fold) (Place file offset) text line key told rest h is =
-    cut-whole text line key told rest (decimal file ++ 58 ∷ decimal offset) h is.0 ∙ sym (place-first key file offset rest) ∙ ap (λ l. l ++ rest) (told-places literal fold key file offset)
-cut-text (LinesWith literal fold) (Files list last moved) text line key told rest h is = absurd is
-cut-text Resources (Total n) text line key told rest h is =
-    cut-whole text line key told rest (decimal n) h is.0 ∙ sym (total-first key n rest) ∙ ap (λ l. l ++ rest) (sym (total_told Resources key n refl))
-cut-text (NthField separator number) (Total n) text line key told rest h is =
-    cut-whole text line key told rest (decimal n) h is.0 ∙ sym (total-first key n rest) ∙ ap (λ l. l ++ rest) (sym (total_told (NthField separator number) key n refl))
-cut-text Resources (Place file offset) text line key told rest h is = absurd is
-cut-text (NthField separator number) (Place file offset) text line key told rest h is = absurd is
-cut-text Resources (Files list last moved) text line key told rest h is = absurd is
-cut-text (NthField separator number) (Files list last moved) text line key told rest h is = absurd is
-cut-text (InvertedIndex keep_case) (Total n) text line key told rest h is = absurd is
-cut-text (InvertedIndex keep_case) (Place file offset) text line key told rest h is = absurd is
-cut-text (InvertedIndex keep_case) (Files list last moved) text line key told rest h is =
+pub cut-text : (form : GroupText) (t : Tally) (text line key told rest : List ℕ) → IsCut text line key told rest → IsParsedFor form t told
+    → text ≡ group_text_for form (record { key = key; values = values_of t }) ++ rest
+cut-text Count (Total n) text line key told rest h is =
+    cut-whole text line key told rest (decimal n) h is.0 ∙ sym (total-first key n rest) ∙ ap (λ k. total_line key k ++ rest) (sym (length-replicate n One))
+cut-text Lines (Place file offset) text line key told rest h is =
+    cut-whole text line key told rest (decimal file ++ 58 ∷ decimal offset) h is.0 ∙ sym (place-first key file offset rest) ∙ ap (λ l. l ++ rest) (sym (append-nil (place_line key (At file offset))))
+cut-text Listing (Files list last moved) text line key told rest h is =
     let w = list-told list last moved told is in
-    let job : JobSpec = InvertedIndex keep_case in
     cut-whole text line key told rest (comma_separated (w.0 ∷ w.1)) h w.4
     ∙ sym (line-text key (comma_separated (w.0 ∷ w.1)) rest)
     ∙ ap (λ fs. files_line key fs ++ rest) (sym (files-are (w.0 ∷ w.1) w.2))
-    ∙ ap (λ vs. group_text job (record { key = key; values = vs }) ++ rest) (sym w.5)
+    ∙ ap (λ vs. group_text_for Listing (record { key = key; values = vs }) ++ rest) (sym w.5)
+cut-text form t text line key told rest h is = absurd is
 
 -- and what it is read as
-pub cut-read : (job : JobSpec) (t : Tally) (text line key told rest : List ℕ) → IsCut text line key told rest → IsParsed job t told
-    → groups_in job text ≡ record { key = key; values = values_of t } ∷ groups_in job rest
-cut-read (WordCount keep_case) (Total n) text line key told rest h is =
-    ap (groups_in (WordCount keep_case)) (cut-whole text line key told rest (decimal n) h is.0 ∙ sym (total-first key n rest))
-    ∙ total-read (WordCount keep_case) key n rest (cut-clear text line key told rest h) is.1
-    ∙ (let e = ap (λ m. replicate m One) (value-of n is.1) in λ i. record { key = key; values = e i } ∷ groups_in (WordCount keep_case) rest)
-cut-read (WordCount keep_case) (Place file offset) text line key told rest h is = absurd is
-cut-read (WordCount keep_case) (Files list last moved) text line key told rest h is = absurd is
-cut-read (LinesWith literal fold) (Total n) text line key told rest h is = absurd is
-cut-read (LinesWith literal fold) (Place file offset) text line key told rest h is =
-    ap (groups_in (LinesWith literal fold)) (cut-whole text line key told rest (decimal file ++ 58 ∷ decimal offset) h is.0 ∙ sym (place-first key file offset rest))
-    ∙ place-read literal fold key file offset rest (cut-clear text line key told rest h) (omega (arith, is.1)) is.2
-cut-read (LinesWith literal fold) (Files list last moved) text line key told rest h is = absurd is
-cut-read Resources (Total n) text line key told rest h is =
-    ap (groups_in Resources) (cut-whole text line key told rest (decimal n) h is.0 ∙ sym (total-first key n rest))
-    ∙ total-read Resources key n rest (cut-clear text line key told rest h) is.1
-    ∙ (let e = ap (λ m. replicate m One) (value-of n is.1) in λ i. record { key = key; values = e i } ∷ groups_in Resources rest)
-cut-read (NthField separator number) (Total n) text line key told rest h is =
-    ap (groups_in (NthField separator number)) (cut-whole text line key told rest (decimal n) h is.0 ∙ sym (total-first key n rest))
-    ∙ total-read (NthField separator number) key n rest (cut-clear text line key told rest h) is.1
-    ∙ (let e = ap (λ m. replicate m One) (value-of n is.1) in λ i. record { key = key; values = e i } ∷ groups_in (NthField separator number) rest)
-cut-read Resources (Place file offset) text line key told rest h is = absurd is
-cut-read (NthField separator number) (Place file offset) text line key told rest h is = absurd is
-cut-read Resources (Files list last moved) text line key told rest h is = absurd is
-cut-read (NthField separator number) (Files list last moved) text line key told rest h is = absurd is
-cut-read (InvertedIndex keep_case) (Total n) text line key told rest h is = absurd is
-cut-read (InvertedIndex keep_case) (Place file offset) text line key told rest h is = absurd is
-cut-read (InvertedIndex keep_case) (Files list last moved) text line key told rest h is =
+pub cut-read : (form : GroupText) (t : Tally) (text line key told rest : List ℕ) → IsCut text line key told rest → IsParsedFor form t told
+    → groups_for form text ≡ record { key = key; values = values_of t } ∷ groups_for form rest
+cut-read Count (Total n) text line key told rest h is =
+    ap (groups_for Count) (cut-whole text line key told rest (decimal n) h is.0 ∙ sym (total-first key n rest)) ∙ total-read key n rest (cut-clear text line key told rest h) is.1
+cut-read Lines (Place file offset) text line key told rest h is =
+    ap (groups_for Lines) (cut-whole text line key told rest (decimal file ++ 58 ∷ decimal offset) h is.0 ∙ sym (place-first key file offset rest))
+    ∙ place-read key file offset rest (cut-clear text line key told rest h) (omega (arith, is.1)) is.2
+cut-read Listing (Files list last moved) text line key told rest h is =
     let w = list-told list last moved told is in
-    let job : JobSpec = InvertedIndex keep_case in
-    ap (groups_in job) (cut-whole text line key told rest (comma_separated (w.0 ∷ w.1)) h w.4 ∙ sym (line-text key (comma_separated (w.0 ∷ w.1)) rest))
-    ∙ index-line keep_case key w.0 w.1 rest (cut-clear text line key told rest h) w.3
-    ∙ (λ i. record { key = key; values = sym w.5 i } ∷ groups_in job rest)
+    ap (groups_for Listing) (cut-whole text line key told rest (comma_separated (w.0 ∷ w.1)) h w.4 ∙ sym (line-text key (comma_separated (w.0 ∷ w.1)) rest))
+    ∙ index-line key w.0 w.1 rest (cut-clear text line key told rest h) w.3
+    ∙ (λ i. record { key = key; values = sym w.5 i } ∷ groups_for Listing rest)
+cut-read form t text line key told rest h is = absurd is
 
-pub told-for : (job : JobSpec) (t : Tally) (told : List ℕ) → IsParsed job t told → IsFor job t
-told-for (WordCount keep_case) (Total n) told h = tt
-told-for (WordCount keep_case) (Place file offset) told h = h
-told-for (WordCount keep_case) (Files list last moved) told h = h
-told-for (LinesWith literal fold) (Total n) told h = h
-told-for (LinesWith literal fold) (Place file offset) told h = tt
-told-for (LinesWith literal fold) (Files list last moved) told h = h
-told-for Resources (Total n) told h = tt
-told-for (NthField separator number) (Total n) told h = tt
-told-for Resources (Place file offset) told h = h
-told-for (NthField separator number) (Place file offset) told h = h
-told-for Resources (Files list last moved) told h = h
-told-for (NthField separator number) (Files list last moved) told h = h
-told-for (InvertedIndex keep_case) (Total n) told h = h
-told-for (InvertedIndex keep_case) (Place file offset) told h = h
-told-for (InvertedIndex keep_case) (Files list last moved) told h =
+pub told-for : (form : GroupText) (t : Tally) (told : List ℕ) → IsParsedFor form t told → IsTallyFor form t
+told-for Count (Total n) told h = tt
+told-for Lines (Place file offset) told h = tt
+told-for Listing (Files list last moved) told h =
     (subst (IsListTo last) h.0 h.2, (let none : moved.files ≡ 0 = ap (λ (s : Shift). s.files) h.1 in omega (arith, none, h.2.0)))
+told-for form t told h = absurd h
 
-pub told-still : (job : JobSpec) (t : Tally) (told : List ℕ) → IsParsed job t told → IsUnshifted t
-told-still job (Total n) told h = tt
-told-still job (Place file offset) told h = tt
-told-still (WordCount keep_case) (Files list last moved) told h = absurd h
-told-still (LinesWith literal fold) (Files list last moved) told h = absurd h
-told-still Resources (Files list last moved) told h = absurd h
-told-still (NthField separator number) (Files list last moved) told h = absurd h
-told-still (InvertedIndex keep_case) (Files list last moved) told h = (h.1, subst (IsListTo last) h.0 h.2)
+pub told-still : (form : GroupText) (t : Tally) (told : List ℕ) → IsParsedFor form t told → IsUnshifted t
+told-still form (Total n) told h = tt
+told-still form (Place file offset) told h = tt
+told-still Listing (Files list last moved) told h = (h.1, subst (IsListTo last) h.0 h.2)
+told-still form (Files list last moved) told h = absurd h
 
 pub same_key : (j k : List ℕ) → not (bytes_eq j k) ≡ false → j ≡ k
 same_key j k e = bytes_eq-is j k (by (bytes_eq j k) e)
@@ -207,14 +151,11 @@ same_key j k e = bytes_eq-is j k (by (bytes_eq j k) e)
     by false h = absurd (cc h)
 
 -- no line of an index tells so
-pub no-list : (job : JobSpec) (told : List ℕ) → counts job ≡ false → has_lines job ≡ false → ((n : ℕ) → IsListTo n told → ⊥) → (t : Tally) → IsParsed job t told → ⊥
-no-list (WordCount keep_case) told c l none t h = absurd (cc c)
-no-list (LinesWith literal fold) told c l none t h = absurd (cc l)
-no-list Resources told c l none t h = absurd (cc c)
-no-list (NthField separator number) told c l none t h = absurd (cc c)
-no-list (InvertedIndex keep_case) told c l none (Total n) h = h
-no-list (InvertedIndex keep_case) told c l none (Place file offset) h = h
-no-list (InvertedIndex keep_case) told c l none (Files list last moved) h = none last h.2
+pub no-list : (form : GroupText) (told : List ℕ) → is_count form ≡ false → is_lines form ≡ false → ((n : ℕ) → IsListTo n told → ⊥) → (t : Tally) → IsParsedFor form t told → ⊥
+no-list Count told c l none t h = absurd (cc c)
+no-list Lines told c l none t h = absurd (cc l)
+no-list Listing told c l none (Files list last moved) h = none last h.2
+no-list Listing told c l none t h = h
 
 -- a total tells no place
 pub total-nowhere : (count n : ℕ) (t : Tally) → t ≡ Total n → AreInFiles count (values_of t)
@@ -282,29 +223,18 @@ Lacks-there b (x ∷ xs) ys h = Lacks-there b xs ys h.1
 pub there : (b : ℕ) (text xs ys : List ℕ) → text ≡ xs ++ b ∷ ys → Lacks b text → ⊥
 there b text xs ys e h = Lacks-there b xs ys (subst (Lacks b) e h)
 
-told-lacks : (job : JobSpec) (t : Tally) (told : List ℕ) (b : ℕ) → (IsInRange 48 57 b → ⊥) → b ≢ 58 → b ≢ 44 → IsParsed job t told → Lacks b told
-told-lacks (WordCount keep_case) (Total n) told b digit colon comma is = subst (Lacks b) (sym is.0) (decimal-lacks b n digit is.1)
-told-lacks (WordCount keep_case) (Place file offset) told b digit colon comma is = absurd is
-told-lacks (WordCount keep_case) (Files list last moved) told b digit colon comma is = absurd is
-told-lacks (LinesWith literal fold) (Total n) told b digit colon comma is = absurd is
-told-lacks (LinesWith literal fold) (Place file offset) told b digit colon comma is =
+told-lacks : (form : GroupText) (t : Tally) (told : List ℕ) (b : ℕ) → (IsInRange 48 57 b → ⊥) → b ≢ 58 → b ≢ 44 → IsParsedFor form t told → Lacks b told
+told-lacks Count (Total n) told b digit colon comma is = subst (Lacks b) (sym is.0) (decimal-lacks b n digit is.1)
+told-lacks Lines (Place file offset) told b digit colon comma is =
     subst (Lacks b) (sym is.0) (Lacks-append b (decimal file) (58 ∷ decimal offset) (decimal-lacks b file digit (omega (arith, is.1))) (λ e. colon (sym e), decimal-lacks b offset digit is.2))
-told-lacks (LinesWith literal fold) (Files list last moved) told b digit colon comma is = absurd is
-told-lacks Resources (Total n) told b digit colon comma is = subst (Lacks b) (sym is.0) (decimal-lacks b n digit is.1)
-told-lacks (NthField separator number) (Total n) told b digit colon comma is = subst (Lacks b) (sym is.0) (decimal-lacks b n digit is.1)
-told-lacks Resources (Place file offset) told b digit colon comma is = absurd is
-told-lacks (NthField separator number) (Place file offset) told b digit colon comma is = absurd is
-told-lacks Resources (Files list last moved) told b digit colon comma is = absurd is
-told-lacks (NthField separator number) (Files list last moved) told b digit colon comma is = absurd is
-told-lacks (InvertedIndex keep_case) (Total n) told b digit colon comma is = absurd is
-told-lacks (InvertedIndex keep_case) (Place file offset) told b digit colon comma is = absurd is
-told-lacks (InvertedIndex keep_case) (Files list last moved) told b digit colon comma is =
+told-lacks Listing (Files list last moved) told b digit colon comma is =
     let w = list-told list last moved told is in
     subst (Lacks b) (sym w.4) (separated-lack b w.0 w.1 digit (λ e. comma (sym e)) w.3)
+told-lacks form t told b digit colon comma is = absurd is
 
 begun-line : (job : JobSpec) (text : List ℕ) → (h : BeginsWithLine job text) → Lacks 10 (h.key ++ 9 ∷ h.told)
 begun-line job text h =
-    Lacks-append 10 h.key (9 ∷ h.told) h.clear (λ e. omega (arith, e), told-lacks job h.tally h.told 10 (λ r. omega (arith, r.0)) (λ e. omega (arith, e)) (λ e. omega (arith, e)) h.tells)
+    Lacks-append 10 h.key (9 ∷ h.told) h.clear (λ e. omega (arith, e), told-lacks (group_text_of job) h.tally h.told 10 (λ r. omega (arith, r.0)) (λ e. omega (arith, e)) (λ e. omega (arith, e)) h.tells)
 
 pub begun-same : (job : JobSpec) (text line rest : List ℕ) (h : BeginsWithLine job text) → text ≡ line ++ 10 ∷ rest → Lacks 10 line → line ≡ h.key ++ 9 ∷ h.told
 begun-same job text line rest h e clear =
@@ -314,8 +244,8 @@ pub begun-told : (job : JobSpec) (text line rest key told : List ℕ) (h : Begin
     → line ≡ key ++ 9 ∷ told → Lacks 9 told → told ≡ h.told
 begun-told job text line rest key told h e clear last whole =
     sym (after-last 9 key told whole) ∙ ap (after_last 9) (sym last ∙ begun-same job text line rest h e clear)
-    ∙ after-last 9 h.key h.told (told-lacks job h.tally h.told 9 (λ r. omega (arith, r.0)) (λ e'. omega (arith, e')) (λ e'. omega (arith, e')) h.tells)
+    ∙ after-last 9 h.key h.told (told-lacks (group_text_of job) h.tally h.told 9 (λ r. omega (arith, r.0)) (λ e'. omega (arith, e')) (λ e'. omega (arith, e')) h.tells)
 
-pub begun : (job : JobSpec) (t : Tally) (key told : List ℕ) → Lacks 10 key → IsParsed job t told → Lacks 10 (key ++ 9 ∷ told)
-begun job t key told clear is =
-    Lacks-append 10 key (9 ∷ told) clear (λ e. omega (arith, e), told-lacks job t told 10 (λ r. omega (arith, r.0)) (λ e. omega (arith, e)) (λ e. omega (arith, e)) is)
+pub begun : (form : GroupText) (t : Tally) (key told : List ℕ) → Lacks 10 key → IsParsedFor form t told → Lacks 10 (key ++ 9 ∷ told)
+begun form t key told clear is =
+    Lacks-append 10 key (9 ∷ told) clear (λ e. omega (arith, e), told-lacks form t told 10 (λ r. omega (arith, r.0)) (λ e. omega (arith, e)) (λ e. omega (arith, e)) is)

@@ -1,5 +1,5 @@
 -- What the merge keeps: what is written, with what waits and what is left, is the text of the merged parts.
-use Rattle.std.proofs.Common.{Bool, false, ◌≡◌, ℕ, ◌<◌, ◌++◌, List, [], ◌∷◌, length, refl, ap, sym, ◌∙◌, subst, inl, inr, arith, Option, None, Some, map}
+use Rattle.std.proofs.Common.{false, not, ◌≡◌, ℕ, ◌<◌, ◌++◌, List, [], ◌∷◌, length, refl, ap, sym, ◌∙◌, subst, inl, inr, arith, Option, None, Some, map}
 use Rattle.std.proofs.lemmas.List.{append_assoc, length-append}
 use Rattle.std.proofs.lemmas.Cmp.{nat_list_cmp_total}
 use Rattle.std.specs.List.{AllByRecursion, flat_map}
@@ -8,7 +8,9 @@ use Rattle.std.specs.declared.cmp.Ordering.{Ordering}
 use Rattle.std.specs.declared.cmp.Ordering.TheVariants.{Less, Equal, Greater}
 use Rattle.mr_bytes.specs.Lists.{Has, Rises}
 use Rattle.mr_bytes.specs.Order.{key_order}
-use Rattle.mr_jobs.specs.JobSpec.{JobSpec, WordCount, LinesWith, Resources, InvertedIndex, NthField}
+use Rattle.mr_jobs.specs.JobSpec.{JobSpec, group_text_of, is_lines}
+use Rattle.mr_jobs.specs.declared.job.GroupText.{GroupText}
+use Rattle.mr_jobs.specs.declared.job.GroupText.TheVariants.{Count, Lines, Files}
 use Rattle.mr_reduce.specs.Text.{place_line}
 use Rattle.mr_sequential.proofs.KeyLaws.{key_tie, with_key-cases}
 use Rattle.mr_bytes.proofs.ListLaws.{Has-all, all_from_Has}
@@ -16,8 +18,8 @@ use Rattle.mr_sequential.proofs.SourceLemmas.{flat_map-append}
 use Rattle.mr_shards.specs.declared.cursor.Cursor.{Cursor}
 use Rattle.mr_shards.specs.declared.line.Line.{Line}
 use Rattle.mr_shards.specs.declared.merger.ShardText.{ShardText}
-use Rattle.mr_shards.specs.Merged.{Group, group_text, texts, joined, with_group, merged, written, written_texts}
-use Rattle.mr_shards.specs.Lines.{groups_in, group_in, joins, NoneFalls}
+use Rattle.mr_shards.specs.Merged.{Group, group_text_for, texts, joined, with_group, merged, written, written_texts}
+use Rattle.mr_shards.specs.Lines.{groups_in, NoneFalls}
 use Rattle.mr_shards.specs.Refused.{AreInFiles, AreRead, IsShardText}
 use Rattle.mr_shards.specs.Views.{group_of}
 use Rattle.mr_shards.specs.Cursors.{headed, left, IsHead, IsHeadFor, Goes, with_waiting}
@@ -25,7 +27,7 @@ use Rattle.mr_shards.specs.Outputs.{parts_in, Stands}
 use Rattle.mr_shards.specs.Rounds.{IsBelow, Kept}
 use Rattle.mr_shards.proofs.MergedLaws.{keys, with_group-keys}
 use Rattle.mr_shards.proofs.MergeLemmas.{merged_groups-rise, with_group-joined, in_front}
-use Rattle.mr_shards.proofs.ReadingLemmas.{lines-none}
+use Rattle.mr_shards.proofs.ReadingLemmas.{none-read}
 use Rattle.mr_shards.proofs.RisingLemmas.{written-all}
 use Rattle.mr_shards.proofs.TotalLemmas.{within-step}
 use Rattle.mr_shards.specs.Portions.{behind, merged_groups, merged_portions, shifted_group}
@@ -33,33 +35,28 @@ use Rattle.mr_shards.proofs.StepLemmas.{IsLeast, NotLess, NoneBefore, less-not, 
 
 -- ---- the line that waits
 
-joined-text : (literal : List ℕ) (fold : Bool) (g h : Group) → g.key ≡ h.key
-    → group_text (LinesWith literal fold) (joined g h) ≡ group_text (LinesWith literal fold) g ++ group_text (LinesWith literal fold) h
-joined-text literal fold g h e =
+joined-text : (g h : Group) → g.key ≡ h.key → group_text_for Lines (joined g h) ≡ group_text_for Lines g ++ group_text_for Lines h
+joined-text g h e =
     flat_map-append (place_line g.key) g.values h.values ∙ ap (λ (k : List ℕ). flat_map (place_line g.key) g.values ++ flat_map (place_line k) h.values) e
 
 -- places are written one behind the other, whatever their groups
-front-places : (literal : List ℕ) (fold : Bool) (g : Group) (gs : List Group) → AllByRecursion (λ k. NotLess k g.key) (keys gs)
-    → written_texts (LinesWith literal fold) (with_group g gs) ≡ written (LinesWith literal fold) g ++ written_texts (LinesWith literal fold) gs
-front-places literal fold g [] all = refl
-front-places literal fold g (h ∷ hs) all = by (key_order g.key h.key) refl
+front-places : (g : Group) (gs : List Group) → AllByRecursion (λ k. NotLess k g.key) (keys gs)
+    → flat_map (written Lines) (with_group g gs) ≡ written Lines g ++ flat_map (written Lines) gs
+front-places g [] all = refl
+front-places g (h ∷ hs) all = by (key_order g.key h.key) refl
   where
     by : (o : Ordering) → key_order g.key h.key ≡ o
-        → written_texts (LinesWith literal fold) (match_ordering o (g ∷ h ∷ hs) (joined g h ∷ hs) (h ∷ with_group g hs))
-        ≡ written (LinesWith literal fold) g ++ (written (LinesWith literal fold) h ++ written_texts (LinesWith literal fold) hs)
+        → flat_map (written Lines) (match_ordering o (g ∷ h ∷ hs) (joined g h ∷ hs) (h ∷ with_group g hs)) ≡ written Lines g ++ (written Lines h ++ flat_map (written Lines) hs)
     by Less e = refl
     by Equal e =
-        ap (λ (l : List ℕ). l ++ written_texts (LinesWith literal fold) hs) (joined-text literal fold g h (key_tie g.key h.key e))
-        ∙ append_assoc (written (LinesWith literal fold) g) (written (LinesWith literal fold) h) (written_texts (LinesWith literal fold) hs)
+        ap (λ (l : List ℕ). l ++ flat_map (written Lines) hs) (joined-text g h (key_tie g.key h.key e)) ∙ append_assoc (written Lines g) (written Lines h) (flat_map (written Lines) hs)
     by Greater e = absurd (all.0 (turned g.key h.key e))
 
-front-place : (job : JobSpec) (g : Group) (gs : List Group) → joins job ≡ false → AllByRecursion (λ k. NotLess k g.key) (keys gs)
-    → written_texts job (with_group g gs) ≡ written job g ++ written_texts job gs
-front-place (WordCount keep_case) g gs lines all = absurd (cc lines)
-front-place (LinesWith literal fold) g gs lines all = front-places literal fold g gs all
-front-place Resources g gs lines all = absurd (cc lines)
-front-place (NthField separator number) g gs lines all = absurd (cc lines)
-front-place (InvertedIndex keep_case) g gs lines all = absurd (cc lines)
+front-place : (form : GroupText) (g : Group) (gs : List Group) → not (is_lines form) ≡ false → AllByRecursion (λ k. NotLess k g.key) (keys gs)
+    → flat_map (written form) (with_group g gs) ≡ written form g ++ flat_map (written form) gs
+front-place Count g gs lines all = absurd (cc lines)
+front-place Lines g gs lines all = front-places g gs all
+front-place Files g gs lines all = absurd (cc lines)
 
 -- keys of a group and those behind it
 pub with_group-behind : (k : List ℕ) (g : Group) (gs : List Group) (P : List ℕ → Type 0) → P g.key → AllByRecursion P (keys gs) → AllByRecursion P (keys (with_group g gs))
@@ -96,18 +93,18 @@ module _ (job : JobSpec) (g next : Group) (gs : List Group) (old new : List ℕ)
       with_group-behind w.key g gs (λ k. NotLess k w.key) here
       (all_from_Has (λ k. NotLess k w.key) (keys gs) (λ q a. (let f : NotLess q g.key = Has-all (λ k. NotLess k g.key) (keys gs) q behind a in
       λ less. here (less-back w.key q g.key f less)))) in
-      let wrote : written_texts job (with_group w (with_group g gs)) ≡ written job w ++ written_texts job (with_group g gs) =
+      let wrote : written_texts job (with_group w (with_group g gs)) ≡ written (group_text_of job) w ++ written_texts job (with_group g gs) =
       elim h.2 [
         | inl ne ↦
             (let less : key_order w.key g.key ≡ Less = not_less-differs g.key w.key here ne in
             ap (written_texts job) (in_front w (with_group g gs)
             (with_group-behind w.key g gs (λ k. key_order w.key k ≡ Less) less
             (all_from_Has (λ k. key_order w.key k ≡ Less) (keys gs) (λ q a. less-not w.key g.key q less (Has-all (λ k. NotLess k g.key) (keys gs) q behind a))))))
-        | inr lines ↦ front-place job w (with_group g gs) lines all
+        | inr lines ↦ front-place (group_text_of job) w (with_group g gs) lines all
       ] in
       ap (λ (o : List ℕ). o ++ written_texts job (with_group next gs)) h.1
-      ∙ append_assoc old (written job w) (written_texts job (with_group next gs))
-      ∙ ap (λ (q : Group). old ++ (written job w ++ written_texts job (with_group q gs))) h.0
+      ∙ append_assoc old (written (group_text_of job) w) (written_texts job (with_group next gs))
+      ∙ ap (λ (q : Group). old ++ (written (group_text_of job) w ++ written_texts job (with_group q gs))) h.0
       ∙ ap (λ (t : List ℕ). old ++ t) (sym wrote)
 
   pub goes-key : (waiting : Option Group) → Goes job waiting g next old new → next.key ≡ g.key
@@ -119,7 +116,7 @@ module _ (job : JobSpec) (g next : Group) (gs : List Group) (old new : List ℕ)
 pub goes-front : (job : JobSpec) (waiting : Option Group) (g next : Group) (text old new : List ℕ) → Goes job waiting g next old new → Goes job waiting g next (text ++ old) (text ++ new)
 goes-front job None g next text old new h = (h.0, ap (λ (o : List ℕ). text ++ o) h.1)
 goes-front job (Some w) g next text old new (inl h) = inl (h.0, h.1, ap (λ (o : List ℕ). text ++ o) h.2)
-goes-front job (Some w) g next text old new (inr h) = inr (h.0, ap (λ (o : List ℕ). text ++ o) h.1 ∙ sym (append_assoc text old (written job w)), h.2)
+goes-front job (Some w) g next text old new (inr h) = inr (h.0, ap (λ (o : List ℕ). text ++ o) h.1 ∙ sym (append_assoc text old (written (group_text_of job) w)), h.2)
 
 -- ---- what the loop keeps
 
@@ -149,7 +146,7 @@ kept-step job outputs old new waiting line next out out' s read g k =
 -- ---- the ends of the loop
 
 no-groups : (job : JobSpec) → groups_in job [] ≡ []
-no-groups job = ap (map (group_in job)) lines-none
+no-groups job = none-read (group_text_of job)
 
 stands-end : (job : JobSpec) (o : Option Line) (rest : List ℕ) → o ≡ None → IsHead job o rest → rest ≡ []
 stands-end job None rest e h = h

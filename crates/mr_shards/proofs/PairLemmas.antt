@@ -10,7 +10,9 @@ use Rattle.mr_bytes.specs.declared.Span.{Span}
 use Rattle.mr_bytes.specs.declared.Value.{Value}
 use Rattle.mr_bytes.specs.declared.Value.TheVariants.{One, At}
 use Rattle.mr_input.specs.Files.{nth_file}
-use Rattle.mr_jobs.specs.JobSpec.{JobSpec, RequestSpec, WordCount, LinesWith, Resources, InvertedIndex, NthField}
+use Rattle.mr_jobs.specs.JobSpec.{JobSpec, RequestSpec, WordCount, LinesWith, Resources, InvertedIndex, NthField, group_text_of}
+use Rattle.mr_jobs.specs.declared.job.GroupText.{GroupText}
+use Rattle.mr_jobs.specs.declared.job.GroupText.TheVariants.{Count, Lines, Files}
 use Rattle.mr_jobs.specs.Emissions.{Emission, emissions, word_key, word_emission, one_for}
 use Rattle.mr_jobs.specs.Literal.{holds}
 use Rattle.mr_bytes.specs.Cut.{Lacks}
@@ -64,26 +66,24 @@ Lacks-word false xs h = Lacks-folded xs h
 
 -- ---- what a record emits
 
-abbrev pub IsValueOf : JobSpec → ℕ → ℕ → Value → Type 0
-IsValueOf (WordCount keep_case) file start v = v ≡ One
-IsValueOf (LinesWith literal fold) file start v = v ≡ At file start
-IsValueOf Resources file start v = v ≡ One
-IsValueOf (NthField separator number) file start v = v ≡ One
-IsValueOf (InvertedIndex keep_case) file start v = v ≡ At file start
+abbrev pub IsValueOf : GroupText → ℕ → ℕ → Value → Type 0
+IsValueOf Count file start v = v ≡ One
+IsValueOf Lines file start v = v ≡ At file start
+IsValueOf Files file start v = v ≡ At file start
 
-pub record IsPairOf (job : JobSpec) (file start : ℕ) (key : List ℕ) (value : Value) : Type 0 where
+pub record IsPairOf (form : GroupText) (file start : ℕ) (key : List ℕ) (value : Value) : Type 0 where
   pub clear : Lacks 10 key
-  pub value_is : IsValueOf job file start value
+  pub value_is : IsValueOf form file start value
 
 -- each word has a key without a line feed, and the value that all words of the line have
-words-pairs : (job : JobSpec) (file start : ℕ) (value : Value) (keep_case : Bool) (line : List ℕ) (ws : List Span) (e : Emission) → Lacks 10 line
-    → IsValueOf job file start value → Has (map (word_emission value keep_case line) ws) e → IsPairOf job file start e.0 e.1
-words-pairs job file start value keep_case line [] e clear v h = absurd h
-words-pairs job file start value keep_case line (w ∷ ws) e clear v (inl is) =
-    let here : IsPairOf job file start (word_key keep_case (span_bytes line w)) value =
+words-pairs : (form : GroupText) (file start : ℕ) (value : Value) (keep_case : Bool) (line : List ℕ) (ws : List Span) (e : Emission) → Lacks 10 line
+    → IsValueOf form file start value → Has (map (word_emission value keep_case line) ws) e → IsPairOf form file start e.0 e.1
+words-pairs form file start value keep_case line [] e clear v h = absurd h
+words-pairs form file start value keep_case line (w ∷ ws) e clear v (inl is) =
+    let here : IsPairOf form file start (word_key keep_case (span_bytes line w)) value =
     record { clear = Lacks-word keep_case (span_bytes line w) (Lacks-take 10 (w.end - w.start) (drop w.start line) (Lacks-drop 10 w.start line clear)); value_is = v } in
-    subst (λ (f : Emission). IsPairOf job file start f.0 f.1) is here
-words-pairs job file start value keep_case line (w ∷ ws) e clear v (inr h) = words-pairs job file start value keep_case line ws e clear v h
+    subst (λ (f : Emission). IsPairOf form file start f.0 f.1) is here
+words-pairs form file start value keep_case line (w ∷ ws) e clear v (inr h) = words-pairs form file start value keep_case line ws e clear v h
 
 url-clear : (line key : List ℕ) → Lacks 10 line → url_of line ≡ Some key → Lacks 10 key
 url-clear line key clear is =
@@ -98,25 +98,23 @@ field-clear separator number line key clear is =
     Lacks-front 10 key p.back (Lacks-behind 10 p.front (key ++ p.back) (subst (Lacks 10) p.line_is clear))
 
 -- the one key of a job that counts
-pair-of-key : (job : JobSpec) (file start : ℕ) (found : Option (List ℕ)) (e : Emission) → ((key : List ℕ) → found ≡ Some key → Lacks 10 key)
-    → IsValueOf job file start One → Has (one_for found) e → IsPairOf job file start e.0 e.1
-pair-of-key job file start None e clear value none = absurd none
-pair-of-key job file start (Some key) e clear value (inl at) = subst (λ (f : Emission). IsPairOf job file start f.0 f.1) at (record { clear = clear key refl; value_is = value })
-pair-of-key job file start (Some key) e clear value (inr none) = absurd none
+pair-of-key : (file start : ℕ) (found : Option (List ℕ)) (e : Emission) → ((key : List ℕ) → found ≡ Some key → Lacks 10 key) → Has (one_for found) e → IsPairOf Count file start e.0 e.1
+pair-of-key file start None e clear none = absurd none
+pair-of-key file start (Some key) e clear (inl at) = subst (λ (f : Emission). IsPairOf Count file start f.0 f.1) at (record { clear = clear key refl; value_is = refl })
+pair-of-key file start (Some key) e clear (inr none) = absurd none
 
-emission-pairs : (job : JobSpec) (file start : ℕ) (line : List ℕ) (e : Emission) → Lacks 10 line → Has (emissions job file start line) e → IsPairOf job file start e.0 e.1
-emission-pairs (WordCount keep_case) file start line e clear h = words-pairs (WordCount keep_case) file start One keep_case line (word_spans line) e clear refl h
+emission-pairs : (job : JobSpec) (file start : ℕ) (line : List ℕ) (e : Emission) → Lacks 10 line → Has (emissions job file start line) e → IsPairOf (group_text_of job) file start e.0 e.1
+emission-pairs (WordCount keep_case) file start line e clear h = words-pairs Count file start One keep_case line (word_spans line) e clear refl h
 emission-pairs (LinesWith literal fold) file start line e clear h = by (holds fold line literal) h
   where
-    by : (b : Bool) → Has (cond b ((line, At file start) ∷ []) []) e → IsPairOf (LinesWith literal fold) file start e.0 e.1
-    by true (inl is) = subst (λ (f : Emission). IsPairOf (LinesWith literal fold) file start f.0 f.1) is (record { clear = clear; value_is = refl })
+    by : (b : Bool) → Has (cond b ((line, At file start) ∷ []) []) e → IsPairOf Lines file start e.0 e.1
+    by true (inl is) = subst (λ (f : Emission). IsPairOf Lines file start f.0 f.1) is (record { clear = clear; value_is = refl })
     by true (inr none) = absurd none
     by false none = absurd none
-emission-pairs Resources file start line e clear h = pair-of-key Resources file start (url_of line) e (λ key is. url-clear line key clear is) refl h
+emission-pairs Resources file start line e clear h = pair-of-key file start (url_of line) e (λ key is. url-clear line key clear is) h
 emission-pairs (NthField separator number) file start line e clear h =
-    pair-of-key (NthField separator number) file start (field_of separator number line) e (λ key is. field-clear separator number line key clear is) refl h
-emission-pairs (InvertedIndex keep_case) file start line e clear h =
-    words-pairs (InvertedIndex keep_case) file start (At file start) keep_case line (word_spans line) e clear refl h
+    pair-of-key file start (field_of separator number line) e (λ key is. field-clear separator number line key clear is) h
+emission-pairs (InvertedIndex keep_case) file start line e clear h = words-pairs Files file start (At file start) keep_case line (word_spans line) e clear refl h
 
 placed-from : (name : RecordName) (place : ℕ) (es : List Emission) (t : Triple) → Has (placed_from name place es) t → (e : Emission) × Has es e × (e.0 ≡ t.key) × (e.1 ≡ t.value)
 unfolding placed_from
@@ -161,35 +159,31 @@ record-fine size files r few small h b = record {
 -- ---- all pairs
 
 -- a pair's key and value, where the value can be counted
-abbrev pub IsCounted : JobSpec → Value → Type 0
-IsCounted (WordCount keep_case) v = v ≡ One
-IsCounted (LinesWith literal fold) v = (file : ℕ) × (offset : ℕ) × (file < 2 ^ 64) × (offset < 2 ^ 64) × (v ≡ At file offset)
-IsCounted Resources v = v ≡ One
-IsCounted (NthField separator number) v = v ≡ One
-IsCounted (InvertedIndex keep_case) v = (file : ℕ) × (offset : ℕ) × (file < 2 ^ 64) × (offset < 2 ^ 64) × (v ≡ At file offset)
+abbrev pub IsCounted : GroupText → Value → Type 0
+IsCounted Count v = v ≡ One
+IsCounted Lines v = (file : ℕ) × (offset : ℕ) × (file < 2 ^ 64) × (offset < 2 ^ 64) × (v ≡ At file offset)
+IsCounted Files v = (file : ℕ) × (offset : ℕ) × (file < 2 ^ 64) × (offset < 2 ^ 64) × (v ≡ At file offset)
 
-pub record IsFinePair (job : JobSpec) (t : Triple) : Type 0 where
+pub record IsFinePair (form : GroupText) (t : Triple) : Type 0 where
   pub clear : Lacks 10 t.key
-  pub value_is : IsCounted job t.value
+  pub value_is : IsCounted form t.value
 
-counted : (job : JobSpec) (file start : ℕ) (v : Value) → file < 2 ^ 64 → start < 2 ^ 64 → IsValueOf job file start v → IsCounted job v
-counted (WordCount keep_case) file start v f s is = is
-counted (LinesWith literal fold) file start v f s is = (file, start, f, s, is)
-counted Resources file start v f s is = is
-counted (NthField separator number) file start v f s is = is
-counted (InvertedIndex keep_case) file start v f s is = (file, start, f, s, is)
+counted : (form : GroupText) (file start : ℕ) (v : Value) → file < 2 ^ 64 → start < 2 ^ 64 → IsValueOf form file start v → IsCounted form v
+counted Count file start v f s is = is
+counted Lines file start v f s is = (file, start, f, s, is)
+counted Files file start v f s is = (file, start, f, s, is)
 
-record-pairs : (job : JobSpec) (skips : List RecordName) (r : NamedRecord) (t : Triple) → IsFineRecord r → Has (record_triples job skips r) t → IsFinePair job t
+record-pairs : (job : JobSpec) (skips : List RecordName) (r : NamedRecord) (t : Triple) → IsFineRecord r → Has (record_triples job skips r) t → IsFinePair (group_text_of job) t
 record-pairs job skips r t fine h = by (is_left_out skips r.name) h
   where
-    by : (b : Bool) → Has (cond b [] (placed_from r.name 0 (emissions job r.file r.start r.bytes))) t → IsFinePair job t
+    by : (b : Bool) → Has (cond b [] (placed_from r.name 0 (emissions job r.file r.start r.bytes))) t → IsFinePair (group_text_of job) t
     by true none = absurd none
     by false there =
         let w = placed-from r.name 0 (emissions job r.file r.start r.bytes) t there in
-        let p : IsPairOf job r.file r.start w.0.0 w.0.1 = emission-pairs job r.file r.start r.bytes w.0 fine.clear w.1 in
-        record { clear = subst (Lacks 10) w.2 p.clear; value_is = subst (IsCounted job) w.3 (counted job r.file r.start w.0.1 fine.file fine.start p.value_is) }
+        let p : IsPairOf (group_text_of job) r.file r.start w.0.0 w.0.1 = emission-pairs job r.file r.start r.bytes w.0 fine.clear w.1 in
+        record { clear = subst (Lacks 10) w.2 p.clear; value_is = subst (IsCounted (group_text_of job)) w.3 (counted (group_text_of job) r.file r.start w.0.1 fine.file fine.start p.value_is) }
 
-pub pairs-fine : (request : RequestSpec) (s : Portion) (t : Triple) → 0 < request.split → IsJudged request s → Has (emitted request.job request.split s.files s.skips) t → IsFinePair request.job t
+pub pairs-fine : (request : RequestSpec) (s : Portion) (t : Triple) → 0 < request.split → IsJudged request s → Has (emitted request.job request.split s.files s.skips) t → IsFinePair (group_text_of request.job) t
 pairs-fine request s t some judged h =
     let w = Has-flat_map_from (record_triples request.job s.skips) (named_records request.split s.files) t h in
     let b : Belongs request.split s.files w.0 =

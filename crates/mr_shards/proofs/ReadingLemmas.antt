@@ -9,7 +9,9 @@ use Rattle.std.specs.Int.{IsInRange}
 use Rattle.std.specs.List.{flat_map}
 use Rattle.std.specs.Str.Parse.{AllDigits, digits_value}
 use Rattle.mr_bytes.specs.declared.Value.TheVariants.{One, At}
-use Rattle.mr_jobs.specs.JobSpec.{JobSpec, WordCount, LinesWith, Resources, InvertedIndex, NthField}
+use Rattle.mr_jobs.specs.JobSpec.{group_text_of}
+use Rattle.mr_jobs.specs.declared.job.GroupText.{GroupText}
+use Rattle.mr_jobs.specs.declared.job.GroupText.TheVariants.{Count, Lines, Files}
 use Rattle.mr_bytes.specs.Cut.{Lacks}
 use Rattle.mr_jobs.specs.Url.{before_byte}
 use Rattle.mr_reduce.specs.Text.{comma_separated, file_in, files_line, files_of, total_line, place_line}
@@ -21,8 +23,8 @@ use Rattle.mr_bytes.specs.Lists.{Has, Rises}
 use Rattle.mr_bytes.proofs.SortLaws.{rising_is_one, sorted-Has, sorted-Has_from}
 use Rattle.std.specs.List.{AllByRecursion}
 use Rattle.mr_shards.specs.Index.{NumbersRead}
-use Rattle.mr_shards.specs.Merged.{Group, group_text, texts}
-use Rattle.mr_shards.specs.Lines.{fields, longer, lines, has_byte, before_last, after_last, after_first, numbers_in, places_in, values_in, group_in, groups_in, HasLine, OneReading}
+use Rattle.mr_shards.specs.Merged.{Group, group_text_for, texts_for}
+use Rattle.mr_shards.specs.Lines.{fields, longer, lines, has_byte, before_last, after_last, after_first, places_in, values_in, group_in, groups_for, HasLine, OneReading}
 
 pub lines-next : (l rest : List ℕ) → Lacks 10 l → lines (l ++ 10 ∷ rest) ≡ l ∷ lines rest
 unfolding lines longer
@@ -91,14 +93,14 @@ after-first b (x ∷ xs) ys h = ap (λ t. cond t (xs ++ b ∷ ys) (after_first b
 
 -- ---- a line in front of a text
 
-one-line : (job : JobSpec) (key told rest : List ℕ) → Lacks 10 key → Lacks 10 told → Lacks 9 told
-    → groups_in job ((key ++ 9 ∷ told) ++ 10 ∷ rest) ≡ record { key = key; values = values_in job told } ∷ groups_in job rest
-one-line job key told rest clear clear' whole =
+one-line : (form : GroupText) (key told rest : List ℕ) → Lacks 10 key → Lacks 10 told → Lacks 9 told
+    → groups_for form ((key ++ 9 ∷ told) ++ 10 ∷ rest) ≡ record { key = key; values = values_in form told } ∷ groups_for form rest
+one-line form key told rest clear clear' whole =
     let line : List ℕ = key ++ 9 ∷ told in
     let first = before-last 9 key told whole in
-    let second = ap (values_in job) (after-last 9 key told whole) in
-    ap (map (group_in job)) (lines-next line rest (Lacks-append 10 key (9 ∷ told) clear (λ e. omega (arith, e), clear')))
-    ∙ (λ i. record { key = first i; values = second i } ∷ groups_in job rest)
+    let second = ap (values_in form) (after-last 9 key told whole) in
+    ap (map (group_in form)) (lines-next line rest (Lacks-append 10 key (9 ∷ told) clear (λ e. omega (arith, e), clear')))
+    ∙ (λ i. record { key = first i; values = second i } ∷ groups_for form rest)
 
 -- a line of totals, followed by a text
 pub total-first : (key : List ℕ) (n : ℕ) (rest : List ℕ) → total_line key n ++ rest ≡ (key ++ 9 ∷ decimal n) ++ 10 ∷ rest
@@ -114,25 +116,26 @@ place-first key file offset rest =
 pub value-of : (n : ℕ) → n < 2 ^ 64 → digits_value 10 (decimal n) ≡ n
 value-of n small = (decimal_is_IsNumeral n small).1
 
-pub total-read : (job : JobSpec) (key : List ℕ) (n : ℕ) (rest : List ℕ) → Lacks 10 key → n < 2 ^ 64
-    → groups_in job (total_line key n ++ rest) ≡ record { key = key; values = values_in job (decimal n) } ∷ groups_in job rest
-total-read job key n rest clear small =
-    ap (groups_in job) (total-first key n rest)
-    ∙ one-line job key (decimal n) rest clear (decimal-lacks 10 n lf_other small) (decimal-lacks 9 n tab_other small)
+pub total-read : (key : List ℕ) (n : ℕ) (rest : List ℕ) → Lacks 10 key → n < 2 ^ 64
+    → groups_for Count (total_line key n ++ rest) ≡ record { key = key; values = replicate n One } ∷ groups_for Count rest
+total-read key n rest clear small =
+    ap (groups_for Count) (total-first key n rest)
+    ∙ one-line Count key (decimal n) rest clear (decimal-lacks 10 n lf_other small) (decimal-lacks 9 n tab_other small)
+    ∙ (let e = ap (λ m. replicate m One) (value-of n small) in λ i. record { key = key; values = e i } ∷ groups_for Count rest)
 
-pub place-read : (literal : List ℕ) (fold : Bool) (key : List ℕ) (file offset : ℕ) (rest : List ℕ) → Lacks 10 key → file < 2 ^ 64 → offset < 2 ^ 64
-    → groups_in (LinesWith literal fold) (place_line key (At file offset) ++ rest) ≡ record { key = key; values = At file offset ∷ [] } ∷ groups_in (LinesWith literal fold) rest
-place-read literal fold key file offset rest clear small small' =
+pub place-read : (key : List ℕ) (file offset : ℕ) (rest : List ℕ) → Lacks 10 key → file < 2 ^ 64 → offset < 2 ^ 64
+    → groups_for Lines (place_line key (At file offset) ++ rest) ≡ record { key = key; values = At file offset ∷ [] } ∷ groups_for Lines rest
+place-read key file offset rest clear small small' =
     let told : List ℕ = decimal file ++ 58 ∷ decimal offset in
     let first : digits_value 10 (before_byte 58 told) ≡ file =
     ap (digits_value 10) (before-first 58 (decimal file) (decimal offset) (decimal-lacks 58 file colon_other small)) ∙ value-of file small in
     let second : digits_value 10 (after_first 58 told) ≡ offset =
     ap (digits_value 10) (after-first 58 (decimal file) (decimal offset) (decimal-lacks 58 file colon_other small)) ∙ value-of offset small' in
-    ap (groups_in (LinesWith literal fold)) (place-first key file offset rest)
-    ∙ one-line (LinesWith literal fold) key told rest clear
+    ap (groups_for Lines) (place-first key file offset rest)
+    ∙ one-line Lines key told rest clear
     (Lacks-append 10 (decimal file) (58 ∷ decimal offset) (decimal-lacks 10 file lf_other small) (λ e. omega (arith, e), decimal-lacks 10 offset lf_other small'))
     (Lacks-append 9 (decimal file) (58 ∷ decimal offset) (decimal-lacks 9 file tab_other small) (λ e. omega (arith, e), decimal-lacks 9 offset tab_other small'))
-    ∙ (λ i. record { key = key; values = At (first i) (second i) ∷ [] } ∷ groups_in (LinesWith literal fold) rest)
+    ∙ (λ i. record { key = key; values = At (first i) (second i) ∷ [] } ∷ groups_for Lines rest)
 
 -- ---- numbers between commas
 
@@ -176,20 +179,14 @@ pub line-text : (key told rest : List ℕ) → (key ++ 9 ∷ (told ++ 10 ∷ [])
 line-text key told rest =
     append_assoc key (9 ∷ (told ++ 10 ∷ [])) rest ∙ ap (λ l. key ++ 9 ∷ l) (append_assoc told (10 ∷ []) rest) ∙ sym (append_assoc key (9 ∷ told) (10 ∷ rest))
 
-pub index-line : (keep_case : Bool) (key : List ℕ) (n : ℕ) (ns rest : List ℕ) → Lacks 10 key → AllByRecursion (λ m. m < 2 ^ 64) (n ∷ ns)
-    → groups_in (InvertedIndex keep_case) (files_line key (n ∷ ns) ++ rest) ≡ record { key = key; values = places_in (n ∷ ns) } ∷ groups_in (InvertedIndex keep_case) rest
-index-line keep_case key n ns rest clear small =
-    let job : JobSpec = InvertedIndex keep_case in
+pub index-line : (key : List ℕ) (n : ℕ) (ns rest : List ℕ) → Lacks 10 key → AllByRecursion (λ m. m < 2 ^ 64) (n ∷ ns)
+    → groups_for Files (files_line key (n ∷ ns) ++ rest) ≡ record { key = key; values = places_in (n ∷ ns) } ∷ groups_for Files rest
+index-line key n ns rest clear small =
     let told : List ℕ = comma_separated (n ∷ ns) in
-    let no_lf : Lacks 10 told = separated-lack 10 n ns lf_other (λ e. omega (arith, e)) small in
-    let no_tab : Lacks 9 told = separated-lack 9 n ns tab_other (λ e. omega (arith, e)) small in
-    let line : List ℕ = key ++ 9 ∷ told in
-    let first : before_last 9 line ≡ key = before-last 9 key told no_tab in
-    let second : places_in (numbers_in (after_last 9 line)) ≡ places_in (n ∷ ns) =
-    ap (λ l. places_in (numbers_in l)) (after-last 9 key told no_tab) ∙ ap places_in (numbers_read n ns small) in
-    ap (groups_in job) (line-text key told rest)
-    ∙ ap (map (group_in job)) (lines-next line rest (Lacks-append 10 key (9 ∷ told) clear (λ e. omega (arith, e), no_lf)))
-    ∙ (λ i. record { key = first i; values = second i } ∷ groups_in job rest)
+    let read = ap places_in (numbers_read n ns small) in
+    ap (groups_for Files) (line-text key told rest)
+    ∙ one-line Files key told rest clear (separated-lack 10 n ns lf_other (λ e. omega (arith, e)) small) (separated-lack 9 n ns tab_other (λ e. omega (arith, e)) small)
+    ∙ (λ i. record { key = key; values = read i } ∷ groups_for Files rest)
 
 -- a place in each of rising files tells these files
 pub files-are : (ns : List ℕ) → Rises nat_cmp ns → files_of (places_in ns) ≡ ns
@@ -204,30 +201,29 @@ files-are ns rise =
     told [] = refl
     told (f ∷ fs) = ap (λ l. f ∷ l) (told fs)
 
-pub line-read : (job : JobSpec) (g : Group) (rest : List ℕ) → HasLine job g → groups_in job (group_text job g ++ rest) ≡ g ∷ groups_in job rest
-line-read (WordCount keep_case) g rest h =
-    total-read (WordCount keep_case) g.key (length g.values) rest h.0 h.1
-    ∙ (let same = ap (λ n. replicate n One) (value-of (length g.values) h.1) ∙ sym h.2 in λ i. record { key = g.key; values = same i } ∷ groups_in (WordCount keep_case) rest)
-line-read (LinesWith literal fold) g rest h =
+pub line-read : (form : GroupText) (g : Group) (rest : List ℕ) → HasLine form g → groups_for form (group_text_for form g ++ rest) ≡ g ∷ groups_for form rest
+line-read Count g rest h =
+    total-read g.key (length g.values) rest h.0 h.1
+    ∙ (λ i. record { key = g.key; values = sym h.2 i } ∷ groups_for Count rest)
+line-read Lines g rest h =
     let w = h.1 in
-    let text : group_text (LinesWith literal fold) g ≡ place_line g.key (At w.0 w.1) =
+    let text : group_text_for Lines g ≡ place_line g.key (At w.0 w.1) =
     ap (flat_map (place_line g.key)) w.4 ∙ append-nil (place_line g.key (At w.0 w.1)) in
-    ap (λ l. groups_in (LinesWith literal fold) (l ++ rest)) text ∙ place-read literal fold g.key w.0 w.1 rest h.0 w.2 w.3
-    ∙ (λ i. record { key = g.key; values = sym w.4 i } ∷ groups_in (LinesWith literal fold) rest)
-line-read Resources g rest h =
-    total-read Resources g.key (length g.values) rest h.0 h.1
-    ∙ (let same = ap (λ n. replicate n One) (value-of (length g.values) h.1) ∙ sym h.2 in λ i. record { key = g.key; values = same i } ∷ groups_in Resources rest)
-line-read (NthField separator number) g rest h =
-    total-read (NthField separator number) g.key (length g.values) rest h.0 h.1
-    ∙ (let same = ap (λ n. replicate n One) (value-of (length g.values) h.1) ∙ sym h.2 in λ i. record { key = g.key; values = same i } ∷ groups_in (NthField separator number) rest)
-line-read (InvertedIndex keep_case) g rest h =
-    let job : JobSpec = InvertedIndex keep_case in
+    ap (λ l. groups_for Lines (l ++ rest)) text ∙ place-read g.key w.0 w.1 rest h.0 w.2 w.3
+    ∙ (λ i. record { key = g.key; values = sym w.4 i } ∷ groups_for Lines rest)
+line-read Files g rest h =
     let w = h.1 in
-    ap (λ vs. groups_in job (files_line g.key (files_of vs) ++ rest)) w.4
-    ∙ ap (λ fs. groups_in job (files_line g.key fs ++ rest)) (files-are (w.0 ∷ w.1) w.2)
-    ∙ index-line keep_case g.key w.0 w.1 rest h.0 w.3
-    ∙ (λ i. record { key = g.key; values = sym w.4 i } ∷ groups_in job rest)
+    ap (λ vs. groups_for Files (files_line g.key (files_of vs) ++ rest)) w.4
+    ∙ ap (λ fs. groups_for Files (files_line g.key fs ++ rest)) (files-are (w.0 ∷ w.1) w.2)
+    ∙ index-line g.key w.0 w.1 rest h.0 w.3
+    ∙ (λ i. record { key = g.key; values = sym w.4 i } ∷ groups_for Files rest)
+
+pub none-read : (form : GroupText) → groups_for form [] ≡ []
+none-read form = ap (map (group_in form)) lines-none
+
+pub groups-read : (form : GroupText) (gs : List Group) → AllByRecursion (HasLine form) gs → groups_for form (texts_for form gs) ≡ gs
+groups-read form [] all = none-read form
+groups-read form (g ∷ gs) all = line-read form g (texts_for form gs) all.0 ∙ ap (λ l. g ∷ l) (groups-read form gs all.1)
 
 pub one_reading : OneReading
-one_reading job [] all = ap (map (group_in job)) lines-none
-one_reading job (g ∷ gs) all = line-read job g (texts job gs) all.0 ∙ ap (λ l. g ∷ l) (one_reading job gs all.1)
+one_reading job gs all = groups-read (group_text_of job) gs all

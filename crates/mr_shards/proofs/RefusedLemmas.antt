@@ -1,5 +1,5 @@
 -- Texts of lines with keys in turn, line by line.
-use Rattle.std.proofs.Common.{Result, Err, ◌≤◌, ◌≡◌, ℕ, zero, suc, ◌+◌, ◌<◌, ◌%◌, ◌^◌, ◌++◌, List, [], ◌∷◌, length, get_or, set, refl, ap, sym, ◌∙◌, subst, inl, inr, arith, Option, None, Some, map, replicate, take}
+use Rattle.std.proofs.Common.{Result, Err, ◌≤◌, ◌≡◌, ℕ, zero, suc, ◌+◌, ◌<◌, ◌%◌, ◌^◌, ◌++◌, List, [], ◌∷◌, length, get_or, set, refl, ap, sym, ◌∙◌, subst, inl, inr, arith, Option, None, Some, replicate, take}
 use Rattle.std.proofs.lemmas.Bool.{cases_eq}
 use Rattle.std.proofs.lemmas.List.Sums.{sum_by-cons, sum_by-take-le}
 use Rattle.std.proofs.lemmas.List.{append_assoc, append-nil, append_cancel_left, get_or-set_same, get_or-set_other, length-set, length-replicate, length_push}
@@ -9,7 +9,9 @@ use Rattle.mr_bytes.specs.declared.Value.TheVariants.{One, At}
 use Rattle.mr_bytes.specs.Lists.{Has}
 use Rattle.mr_shards.specs.Portions.{Shift, behind, no_shift, past_cut, past_shard}
 use Rattle.mr_shards.specs.Refused.{PassesNot}
-use Rattle.mr_jobs.specs.JobSpec.{JobSpec, WordCount, LinesWith, Resources, InvertedIndex, NthField}
+use Rattle.mr_jobs.specs.JobSpec.{JobSpec, group_text_of}
+use Rattle.mr_jobs.specs.declared.job.GroupText.{GroupText}
+use Rattle.mr_jobs.specs.declared.job.GroupText.TheVariants.{Count, Lines, Files as Listing}
 use Rattle.mr_bytes.specs.Cut.{Lacks}
 use Rattle.mr_shards.specs.declared.cursor.Cursor.{Cursor}
 use Rattle.mr_shards.specs.declared.merger.MergeFault.{MergeFault}
@@ -22,51 +24,36 @@ use Rattle.mr_shards.specs.declared.merger.ShardText.{ShardText}
 use Rattle.mr_shards.specs.Merged.{Group, group_text, texts}
 use Rattle.std.proofs.Math.Nat.{mod-add-mod}
 use Rattle.mr_sequential.proofs.SourceLemmas.{flat_map-append}
-use Rattle.mr_shards.specs.Lines.{HasLine, groups_in, group_in}
-use Rattle.mr_shards.specs.Views.{BeginsWithLine, IsParsed, IsUnshifted, group_of, values_of}
+use Rattle.mr_shards.specs.Lines.{HasLine, groups_in}
+use Rattle.mr_shards.specs.Views.{BeginsWithLine, IsParsedFor, IsUnshifted, group_of, values_of}
 use Rattle.mr_shards.specs.Cursors.{BlamesNext, ReadsOn}
 use Rattle.mr_shards.specs.declared.cursor.Held.{Held}
 use Rattle.mr_shards.specs.Rounds as Rounds
 use Rattle.mr_shards.specs.Rounds.{IsReadUpTo, Reading}
 use Rattle.mr_shards.specs.Refused.{AreRead, Blames, BlamesOnly, InTurn, HasBadPlace, IsBadLine, IsBadPlace, IsLineOf, IsReadAt, IsReadOf, IsReadTo, IsRest, IsUnmoved, MayFollow, NoLineFollows, Overflows, TakesNot, TellsPlace, count_at, files_in, last_key, last_of, lines_read, shift_before, shift_from, text_at, total_of}
 use Rattle.mr_shards.proofs.LineLemmas.{IsCut, begun, cut-read, cut-text, list-has, list-told}
-use Rattle.mr_shards.proofs.ReadingLemmas.{lines-none}
+use Rattle.mr_shards.proofs.ReadingLemmas.{none-read}
 
-has-line : (job : JobSpec) (g : Group) (t : Tally) (told : List ℕ) → Lacks 10 g.key → IsParsed job t told → g.values ≡ values_of t → HasLine job g
-has-line (WordCount keep_case) g (Total n) told clear is e =
+has-line : (form : GroupText) (g : Group) (t : Tally) (told : List ℕ) → Lacks 10 g.key → IsParsedFor form t told → g.values ≡ values_of t → HasLine form g
+has-line Count g (Total n) told clear is e =
     let l : length g.values ≡ n = ap length e ∙ length-replicate n One in
     (clear, omega (arith, l, is.1), e ∙ ap (λ k. replicate k One) (sym l))
-has-line (WordCount keep_case) g (Place file offset) told clear is e = absurd is
-has-line (WordCount keep_case) g (Files list last moved) told clear is e = absurd is
-has-line (LinesWith literal fold) g (Total n) told clear is e = absurd is
-has-line (LinesWith literal fold) g (Place file offset) told clear is e = (clear, (file, offset, omega (arith, is.1), is.2, e))
-has-line (LinesWith literal fold) g (Files list last moved) told clear is e = absurd is
-has-line Resources g (Total n) told clear is e =
-    let l : length g.values ≡ n = ap length e ∙ length-replicate n One in
-    (clear, omega (arith, l, is.1), e ∙ ap (λ k. replicate k One) (sym l))
-has-line (NthField separator number) g (Total n) told clear is e =
-    let l : length g.values ≡ n = ap length e ∙ length-replicate n One in
-    (clear, omega (arith, l, is.1), e ∙ ap (λ k. replicate k One) (sym l))
-has-line Resources g (Place file offset) told clear is e = absurd is
-has-line (NthField separator number) g (Place file offset) told clear is e = absurd is
-has-line Resources g (Files list last moved) told clear is e = absurd is
-has-line (NthField separator number) g (Files list last moved) told clear is e = absurd is
-has-line (InvertedIndex keep_case) g (Total n) told clear is e = absurd is
-has-line (InvertedIndex keep_case) g (Place file offset) told clear is e = absurd is
-has-line (InvertedIndex keep_case) g (Files list last moved) told clear is e =
+has-line Lines g (Place file offset) told clear is e = (clear, (file, offset, omega (arith, is.1), is.2, e))
+has-line Listing g (Files list last moved) told clear is e =
     let w = list-told list last moved told is in
     (clear, (w.0, w.1, w.2, w.3, e ∙ w.5))
+has-line form g t told clear is e = absurd is
 
-pub have-lines : (job : JobSpec) (gs : List Group) → AllByRecursion (IsLineOf job) gs → AllByRecursion (HasLine job) gs
+pub have-lines : (job : JobSpec) (gs : List Group) → AllByRecursion (IsLineOf job) gs → AllByRecursion (HasLine (group_text_of job)) gs
 have-lines job [] all = tt
-have-lines job (g ∷ gs) all = (has-line job g all.0.tally all.0.told all.0.clear all.0.tells all.0.values, have-lines job gs all.1)
+have-lines job (g ∷ gs) all = (has-line (group_text_of job) g all.0.tally all.0.told all.0.clear all.0.tells all.0.values, have-lines job gs all.1)
 
 -- ---- one line in front of others
 
 -- what a line of the job is cut into
 line-cut : (job : JobSpec) (g : Group) (l : IsLineOf job g) (more : List ℕ)
     → IsCut ((g.key ++ 9 ∷ l.told) ++ 10 ∷ more) (g.key ++ 9 ∷ l.told) g.key l.told more
-line-cut job g l more = record { first = refl; clear = begun job l.tally g.key l.told l.clear l.tells; last = refl }
+line-cut job g l more = record { first = refl; clear = begun (group_text_of job) l.tally g.key l.told l.clear l.tells; last = refl }
 
 as-told : (job : JobSpec) (g : Group) (l : IsLineOf job g) → g ≡ record { key = g.key; values = values_of l.tally }
 as-told job g l = λ i. record { key = g.key; values = l.values i }
@@ -74,13 +61,13 @@ as-told job g l = λ i. record { key = g.key; values = l.values i }
 pub front-text : (job : JobSpec) (g : Group) (l : IsLineOf job g) (more : List ℕ) → group_text job g ++ more ≡ (g.key ++ 9 ∷ l.told) ++ 10 ∷ more
 front-text job g l more =
     ap (λ (h : Group). group_text job h ++ more) (as-told job g l)
-    ∙ sym (cut-text job l.tally ((g.key ++ 9 ∷ l.told) ++ 10 ∷ more) (g.key ++ 9 ∷ l.told) g.key l.told more (line-cut job g l more) l.tells)
+    ∙ sym (cut-text (group_text_of job) l.tally ((g.key ++ 9 ∷ l.told) ++ 10 ∷ more) (g.key ++ 9 ∷ l.told) g.key l.told more (line-cut job g l more) l.tells)
 
 -- it is read first
 pub front-read : (job : JobSpec) (g : Group) (more : List ℕ) → IsLineOf job g → groups_in job (group_text job g ++ more) ≡ g ∷ groups_in job more
 front-read job g more l =
     ap (groups_in job) (front-text job g l more)
-    ∙ cut-read job l.tally ((g.key ++ 9 ∷ l.told) ++ 10 ∷ more) (g.key ++ 9 ∷ l.told) g.key l.told more (line-cut job g l more) l.tells
+    ∙ cut-read (group_text_of job) l.tally ((g.key ++ 9 ∷ l.told) ++ 10 ∷ more) (g.key ++ 9 ∷ l.told) g.key l.told more (line-cut job g l more) l.tells
     ∙ ap (λ (h : Group). h ∷ groups_in job more) (sym (as-told job g l))
 
 front-begins : (job : JobSpec) (text : List ℕ) (g : Group) (more : List ℕ) → IsLineOf job g → text ≡ group_text job g ++ more → BeginsWithLine job text
@@ -151,7 +138,7 @@ parts-ways job last [] [] rest e all lines turn some bad = some e
 parts-ways job last [] (g ∷ gs) rest e all lines turn some bad = bad g (texts job gs) lines.0 turn.0 e
 parts-ways job last (b ∷ bs) [] rest e all lines turn some bad =
     let none : [] ≡ b ∷ groups_in job (texts job bs ++ rest) =
-    sym (ap (map (group_in job)) lines-none) ∙ ap (groups_in job) (sym e ∙ append_assoc (group_text job b) (texts job bs) rest) ∙ front-read job b (texts job bs ++ rest) all.0 in
+    sym (none-read (group_text_of job)) ∙ ap (groups_in job) (sym e ∙ append_assoc (group_text job b) (texts job bs) rest) ∙ front-read job b (texts job bs ++ rest) all.0 in
     absurd (cc none)
 parts-ways job last (b ∷ bs) (g ∷ gs) rest e all lines turn some bad =
     let split : group_text job b ++ (texts job bs ++ rest) ≡ group_text job g ++ texts job gs = sym (append_assoc (group_text job b) (texts job bs) rest) ∙ e in

@@ -1,8 +1,8 @@
 -- The files of merged lines never fall, so an index may be written as its values come.
-use Rattle.std.proofs.Common.{◌≡◌, ℕ, zero, suc, ◌+◌, ◌<◌, ◌≤◌, ◌++◌, List, [], ◌∷◌, refl, ap, sym, ◌∙◌, subst, inl, inr, Bool, true, false, cond, map, arith, Option, None, Some}
+use Rattle.std.proofs.Common.{◌≡◌, ℕ, zero, suc, ◌+◌, ◌<◌, ◌≤◌, ◌++◌, List, [], ◌∷◌, refl, ap, sym, ◌∙◌, subst, inl, inr, Bool, true, false, not, cond, map, arith, Option, None, Some}
 use Rattle.std.proofs.lemmas.List.{append-nil, append_assoc}
 use Rattle.std.proofs.lemmas.Cmp.{nat_list_cmp_total, ranked}
-use Rattle.std.specs.List.{AllByRecursion}
+use Rattle.std.specs.List.{AllByRecursion, flat_map}
 use Rattle.std.specs.Ordering.{nat_cmp}
 use Rattle.std.specs.Str.{bytes_eq}
 use Rattle.std.specs.declared.cmp.Ordering.{Ordering}
@@ -11,14 +11,15 @@ use Rattle.mr_bytes.specs.declared.Value.{Value}
 use Rattle.mr_bytes.specs.declared.Value.TheVariants.{One, At}
 use Rattle.mr_bytes.specs.Lists.{Rises}
 use Rattle.mr_bytes.specs.Order.{key_order}
-use Rattle.mr_jobs.specs.JobSpec.{JobSpec, WordCount, LinesWith, Resources, InvertedIndex, NthField}
-use Rattle.mr_jobs.specs.declared.job.GroupText.TheVariants.{Files}
+use Rattle.mr_jobs.specs.JobSpec.{JobSpec, group_text_of, is_lines}
+use Rattle.mr_jobs.specs.declared.job.GroupText.{GroupText}
+use Rattle.mr_jobs.specs.declared.job.GroupText.TheVariants.{Count, Lines, Files}
 use Rattle.mr_reduce.specs.Files.{NeverFalls, Tells}
 use Rattle.mr_reduce.specs.Writing.{values_text}
 use Rattle.mr_reduce.proofs.WritingLemmas.{rising-text}
 use Rattle.mr_sequential.proofs.KeyLaws.{bytes_eq-is}
 use Rattle.mr_shards.specs.declared.merger.ShardText.{ShardText}
-use Rattle.mr_shards.specs.Merged.{Group, group_text, texts, written, written_texts}
+use Rattle.mr_shards.specs.Merged.{Group, group_text_for, texts, texts_for, written, written_texts}
 use Rattle.mr_shards.specs.Lines.{HasLine, groups_in, places_in}
 use Rattle.mr_shards.specs.Outputs.{parts_in}
 use Rattle.mr_shards.specs.Portions.{Shift, behind, merged_groups, merged_portions, no_shift, past_shard, shifted_group, shifted_parts, shifted_value}
@@ -95,32 +96,33 @@ from-none (n ∷ ns) = (omega arith, from-none ns)
 abbrev Within : Shift → ℕ → List Value → Type 0
 Within s top vs = RisesFrom s.files vs × EndsAt top vs
 
-module _ (keep_case : Bool) where
-  line-within : (s : Shift) (count top : ℕ) (g : Group) → HasLine (InvertedIndex keep_case) g → AreInFiles count g.values → ((f : ℕ) → f < count → s.files + f ≤ top)
-      → Within s top (map (shifted_value s) g.values)
-  line-within s count top g line own fits =
-      let ns : List ℕ = line.1.0 ∷ line.1.1 in
-      let is : g.values ≡ places_in ns = line.1.4 in
-      subst (λ (vs : List Value). Within s top (map (shifted_value s) vs)) (sym is) (
-        rises-lower s.files (s.files + 0) (map (shifted_value s) (places_in ns)) (omega arith) (rises-places s 0 ns line.1.2 (from-none ns)),
-        ends-places s count top ns (subst (AreInFiles count) is own) fits,
-      )
+line-within : (s : Shift) (count top : ℕ) (g : Group) → HasLine Files g → AreInFiles count g.values → ((f : ℕ) → f < count → s.files + f ≤ top)
+    → Within s top (map (shifted_value s) g.values)
+line-within s count top g line own fits =
+    let ns : List ℕ = line.1.0 ∷ line.1.1 in
+    let is : g.values ≡ places_in ns = line.1.4 in
+    subst (λ (vs : List Value). Within s top (map (shifted_value s) vs)) (sym is) (
+      rises-lower s.files (s.files + 0) (map (shifted_value s) (places_in ns)) (omega arith) (rises-places s 0 ns line.1.2 (from-none ns)),
+      ends-places s count top ns (subst (AreInFiles count) is own) fits,
+    )
 
-  after : (k j : List ℕ) → MayFollow (InvertedIndex keep_case) (Some k) j → key_order k j ≡ Less
+-- a job whose text lists files
+module _ (job : JobSpec) (files : group_text_of job ≡ Files) where
+  after : (k j : List ℕ) → MayFollow job (Some k) j → key_order k j ≡ Less
   after k j f = by (key_order j k) refl
     where
       by : (o : Ordering) → key_order j k ≡ o → key_order k j ≡ Less
       by Less e = absurd (f.0 e)
-      by Equal e = absurd (f.1 refl e)
+      by Equal e = absurd (f.1 (ap (λ form. not (is_lines form)) files) e)
       by Greater e = turned j k e
 
-  later : (k : List ℕ) (s : Shift) (gs : List Group) → InTurn (InvertedIndex keep_case) (Some k) gs → AllByRecursion (λ j. key_order k j ≡ Less) (keys (map (shifted_group s) gs))
+  later : (k : List ℕ) (s : Shift) (gs : List Group) → InTurn job (Some k) gs → AllByRecursion (λ j. key_order k j ≡ Less) (keys (map (shifted_group s) gs))
   later k s [] t = tt
   later k s (g ∷ gs) t =
       let less = after k g.key t.0 in
       (less, all-map (λ j. key_order g.key j ≡ Less) (λ j. key_order k j ≡ Less) (keys (map (shifted_group s) gs)) (λ j h. nat_list_cmp_total.trans k g.key j less h) (later g.key s gs t.1))
 
-  part-within : (s : Shift) (count top : ℕ) (gs : List Group) (last : Option (List ℕ)) → InTurn (InvertedIndex keep_case) last gs → AllByRecursion (HasLine (InvertedIndex keep_case)) gs
+  part-within : (s : Shift) (count top : ℕ) (gs : List Group) (last : Option (List ℕ)) → InTurn job last gs → AllByRecursion (HasLine Files) gs
       → AllByRecursion (λ (g : Group). AreInFiles count g.values) gs → ((f : ℕ) → f < count → s.files + f ≤ top) → (k : List ℕ) → Within s top (values_at (map (shifted_group s) gs) k)
   part-within s count top [] last turn lines own fits k = (tt, tt)
   part-within s count top (g ∷ gs) last turn lines own fits k = by (bytes_eq g.key k) refl (part-within s count top gs (Some g.key) turn.1 lines.1 own.1 fits k)
@@ -136,11 +138,10 @@ module _ (keep_case : Bool) where
 
   -- ---- the lines of all
 
-  merged-rise : (s : Shift) (os : List ShardText) → AllByRecursion (IsShardText (InvertedIndex keep_case)) os → (k : List ℕ)
-      → RisesFrom s.files (values_at (merged_groups (shifted_parts s (parts_in (InvertedIndex keep_case) os))) k)
+  merged-rise : (s : Shift) (os : List ShardText) → AllByRecursion (IsShardText job) os → (k : List ℕ)
+      → RisesFrom s.files (values_at (merged_groups (shifted_parts s (parts_in job os))) k)
   merged-rise s [] all k = tt
   merged-rise s (o ∷ os) all k =
-      let job : JobSpec = InvertedIndex keep_case in
       let next : Shift = behind s (past_shard o.files) in
       let gs : List Group = map (shifted_group s) (groups_in job o.text.now) in
       let hs : List Group = merged_groups (shifted_parts next (parts_in job os)) in
@@ -149,33 +150,34 @@ module _ (keep_case : Bool) where
       let same : groups_in job o.text.now ≡ rest.groups = ap (groups_in job) rest.text_is ∙ one_reading job rest.groups lines in
       let here : Within s next.files (values_at gs k) =
       subst (λ (qs : List Group). Within s next.files (values_at (map (shifted_group s) qs) k)) (sym same)
-      (part-within s o.files.count next.files rest.groups None rest.in_turn lines (subst (AllByRecursion (λ (g : Group). AreInFiles o.files.count g.values)) same all.0.1)
+      (part-within s o.files.count next.files rest.groups None rest.in_turn (subst (λ form. AllByRecursion (HasLine form) rest.groups) files lines) (subst (AllByRecursion (λ (g : Group). AreInFiles o.files.count g.values)) same all.0.1)
       (λ f less. omega (arith, own-file o.files f less)) k) in
       subst (RisesFrom s.files) (sym (merged-values gs hs k)) (rises-append s.files next.files (values_at gs k) (values_at hs k) (omega arith) here.0 here.1 (merged-rise next os all.1 k))
 
-  written-group : (g : Group) → RisesFrom 0 g.values → written (InvertedIndex keep_case) g ≡ group_text (InvertedIndex keep_case) g
-  written-group g r =
-      append_assoc g.key (9 ∷ values_text Files [] None g.values) (10 ∷ [])
-      ∙ ap (λ (t : List ℕ). g.key ++ 9 ∷ (t ++ 10 ∷ [])) (rising-text g.values (never-falls 0 g.values r))
+-- what is written of a group is its text, where the files of an index never fall
+written-group : (g : Group) → RisesFrom 0 g.values → written Files g ≡ group_text_for Files g
+written-group g r =
+    append_assoc g.key (9 ∷ values_text Files [] None g.values) (10 ∷ [])
+    ∙ ap (λ (t : List ℕ). g.key ++ 9 ∷ (t ++ 10 ∷ [])) (rising-text g.values (never-falls 0 g.values r))
 
-  written-told : (f : List ℕ → List Value) (ks : List (List ℕ)) → ((k : List ℕ) → RisesFrom 0 (f k))
-      → written_texts (InvertedIndex keep_case) (map (told f) ks) ≡ texts (InvertedIndex keep_case) (map (told f) ks)
-  written-told f [] r = refl
-  written-told f (k ∷ ks) r =
-      let here = written-group (told f k) (r k) in
-      let rest = written-told f ks r in
-      λ i. here i ++ rest i
+written-told : (f : List ℕ → List Value) (ks : List (List ℕ)) → ((k : List ℕ) → RisesFrom 0 (f k)) → flat_map (written Files) (map (told f) ks) ≡ texts_for Files (map (told f) ks)
+written-told f [] r = refl
+written-told f (k ∷ ks) r =
+    let here = written-group (told f k) (r k) in
+    let rest = written-told f ks r in
+    λ i. here i ++ rest i
+
+written-as : (form : GroupText) (f : List ℕ → List Value) (ks : List (List ℕ)) → (form ≡ Files → (k : List ℕ) → RisesFrom 0 (f k))
+    → flat_map (written form) (map (told f) ks) ≡ texts_for form (map (told f) ks)
+written-as Count f ks r = refl
+written-as Lines f ks r = refl
+written-as Files f ks r = written-told f ks (r refl)
 
 -- what is written of the merge of outputs that stand is its text
 pub written-all : (job : JobSpec) (os : List ShardText) → AllByRecursion (IsShardText job) os
     → written_texts job (merged_portions (parts_in job os)) ≡ texts job (merged_portions (parts_in job os))
-written-all (WordCount keep_case) os all = refl
-written-all (LinesWith literal fold) os all = refl
-written-all Resources os all = refl
-written-all (NthField separator number) os all = refl
-written-all (InvertedIndex keep_case) os all =
-    let job : JobSpec = InvertedIndex keep_case in
+written-all job os all =
     let m : List Group = merged_groups (shifted_parts no_shift (parts_in job os)) in
     let same : merged_portions (parts_in job os) ≡ map (told (values_at m)) (keys m) =
     merged_at_once (parts_in job os) ∙ told-all m (merged_groups-rise (shifted_parts no_shift (parts_in job os))) in
-    ap (written_texts job) same ∙ written-told keep_case (values_at m) (keys m) (merged-rise keep_case no_shift os all) ∙ ap (texts job) (sym same)
+    ap (written_texts job) same ∙ written-as (group_text_of job) (values_at m) (keys m) (λ files. merged-rise job files no_shift os all) ∙ ap (texts job) (sym same)

@@ -5,9 +5,10 @@ use Rattle.std.specs.Prelude.{Err, Ok, OnOk, Result}
 use Rattle.std.specs.List.{flat_map}
 use Rattle.mr_bytes.specs.declared.Value.{Value}
 use Rattle.mr_bytes.specs.declared.Value.TheVariants.{One, At}
-use Rattle.mr_jobs.specs.JobSpec.{JobSpec, WordCount, LinesWith, Resources, InvertedIndex, NthField}
-use Rattle.mr_jobs.specs.declared.job.GroupText.TheVariants.{Files as listing}
-use Rattle.mr_reduce.specs.Text.{place_line, text_of}
+use Rattle.mr_jobs.specs.JobSpec.{JobSpec, group_text_of}
+use Rattle.mr_jobs.specs.declared.job.GroupText.{GroupText}
+use Rattle.mr_jobs.specs.declared.job.GroupText.TheVariants.{Count, Lines, Files as Listing}
+use Rattle.mr_reduce.specs.Text.{place_line, text_for, text_of}
 use Rattle.mr_reduce.specs.Writing.{file_text, last_file, values_text}
 use Rattle.mr_sequential.proofs.SourceLemmas.{flat_map-append}
 use Rattle.mr_shards.specs.declared.line.Line.{Line}
@@ -17,44 +18,40 @@ use Rattle.mr_shards.specs.Merged.{Group, joined, written, written_texts}
 use Rattle.mr_shards.specs.Lines.{joins, numbers_in, places_in}
 use Rattle.mr_shards.specs.Cursors.{Goes, with_waiting}
 use Rattle.mr_shards.specs.Portions.{Shift, shifted_value}
-use Rattle.mr_shards.specs.Views.{HoldsValues, IsFor, Waits, WaitsFor, group_of, values_of}
+use Rattle.mr_shards.specs.Views.{HoldsFor, HoldsValues, IsFor, IsTallyFor, Waits, WaitsFor, group_of, values_of}
 
 -- ---- values that are added
 
 pub holds-total : (job : JobSpec) (t : Tally) (n : ℕ) (w v : Waits) (vs : List Value) → t ≡ Total n → IsFor job t → v.total ≡ w.total + n → HoldsValues job w vs → HoldsValues job v (vs ++ values_of t)
-holds-total job t n w v vs is kind sum h = subst (λ (u : Tally). HoldsValues job v (vs ++ values_of u)) (sym is) (by job (subst (IsFor job) is kind) h)
+holds-total job t n w v vs is kind sum h = subst (λ (u : Tally). HoldsValues job v (vs ++ values_of u)) (sym is) (by (group_text_of job) (subst (IsFor job) is kind) h)
   where
     more : vs ≡ replicate w.total One → vs ++ replicate n One ≡ replicate v.total One
     more e = ap (λ (l : List Value). l ++ replicate n One) e ∙ replicate-append-replicate w.total n One ∙ ap (λ k. replicate k One) (sym sum)
 
-    by : (j : JobSpec) → IsFor j (Total n) → HoldsValues j w vs → HoldsValues j v (vs ++ replicate n One)
-    by (WordCount keep_case) k h = more h
-    by (LinesWith literal fold) k h = absurd k
-    by Resources k h = more h
-    by (NthField separator number) k h = more h
-    by (InvertedIndex keep_case) k h = absurd k
+    by : (form : GroupText) → IsTallyFor form (Total n) → HoldsFor form w vs → HoldsFor form v (vs ++ replicate n One)
+    by Count k h = more h
+    by Lines k h = absurd k
+    by Listing k h = absurd k
 
 pub holds-place : (job : JobSpec) (t : Tally) (file offset : ℕ) (w v : Waits) (vs : List Value) → t ≡ Place file offset → IsFor job t → v.total ≡ w.total → v.key ≡ w.key
     → v.text ≡ w.text ++ text_of job w.key (At file offset ∷ []) → HoldsValues job w vs → HoldsValues job v (vs ++ values_of t)
-holds-place job t file offset w v vs is kind total key text h = subst (λ (u : Tally). HoldsValues job v (vs ++ values_of u)) (sym is) (by job (subst (IsFor job) is kind) text h)
+holds-place job t file offset w v vs is kind total key text h = subst (λ (u : Tally). HoldsValues job v (vs ++ values_of u)) (sym is) (by (group_text_of job) (subst (IsFor job) is kind) text h)
   where
-    by : (j : JobSpec) → IsFor j (Place file offset) → v.text ≡ w.text ++ text_of j w.key (At file offset ∷ []) → HoldsValues j w vs → HoldsValues j v (vs ++ At file offset ∷ [])
-    by (WordCount keep_case) k e h = absurd k
-    by (LinesWith literal fold) k e h = (
+    by : (form : GroupText) → IsTallyFor form (Place file offset) → v.text ≡ w.text ++ text_for form w.key (At file offset ∷ []) → HoldsFor form w vs → HoldsFor form v (vs ++ At file offset ∷ [])
+    by Count k e h = absurd k
+    by Lines k e h = (
       total ∙ h.0,
       e ∙ ap (λ (l : List ℕ). l ++ flat_map (place_line w.key) (At file offset ∷ [])) h.1 ∙ sym (flat_map-append (place_line w.key) vs (At file offset ∷ []))
           ∙ ap (λ (k : List ℕ). flat_map (place_line k) (vs ++ At file offset ∷ [])) (sym key),
     )
-    by Resources k e h = absurd k
-    by (NthField separator number) k e h = absurd k
-    by (InvertedIndex keep_case) k e h = absurd k
+    by Listing k e h = absurd k
 
-text-more : (o : Option ℕ) (vs ws : List Value) → values_text listing [] o (vs ++ ws) ≡ values_text listing [] o vs ++ values_text listing [] (last_file o vs) ws
+text-more : (o : Option ℕ) (vs ws : List Value) → values_text Listing [] o (vs ++ ws) ≡ values_text Listing [] o vs ++ values_text Listing [] (last_file o vs) ws
 text-more o [] ws = refl
 text-more o (One ∷ vs) ws = text-more o vs ws
 text-more o (At file offset ∷ vs) ws =
     ap (λ (l : List ℕ). file_text o file ++ l) (text-more (Some file) vs ws)
-    ∙ sym (append_assoc (file_text o file) (values_text listing [] (Some file) vs) (values_text listing [] (last_file (Some file) vs) ws))
+    ∙ sym (append_assoc (file_text o file) (values_text Listing [] (Some file) vs) (values_text Listing [] (last_file (Some file) vs) ws))
 
 last-more : (o : Option ℕ) (vs ws : List Value) → last_file o (vs ++ ws) ≡ last_file (last_file o vs) ws
 last-more o [] ws = refl
@@ -62,23 +59,21 @@ last-more o (One ∷ vs) ws = last-more o vs ws
 last-more o (At file offset ∷ vs) ws = last-more (Some file) vs ws
 
 pub holds-files : (job : JobSpec) (t : Tally) (list : Bor (List ℕ)) (end : ℕ) (moved : Shift) (w v : Waits) (vs : List Value) → t ≡ Files list end moved → IsFor job t → v.total ≡ w.total → v.key ≡ w.key
-    → v.text ≡ w.text ++ values_text listing [] w.last (map (shifted_value moved) (places_in (numbers_in list.now)))
+    → v.text ≡ w.text ++ values_text Listing [] w.last (map (shifted_value moved) (places_in (numbers_in list.now)))
     → v.last ≡ last_file w.last (map (shifted_value moved) (places_in (numbers_in list.now))) → HoldsValues job w vs → HoldsValues job v (vs ++ values_of t)
 holds-files job t list end moved w v vs is kind total key text last h =
-    subst (λ (u : Tally). HoldsValues job v (vs ++ values_of u)) (sym is) (by job (subst (IsFor job) is kind) h)
+    subst (λ (u : Tally). HoldsValues job v (vs ++ values_of u)) (sym is) (by (group_text_of job) (subst (IsFor job) is kind) h)
   where
     ws : List Value
     ws = map (shifted_value moved) (places_in (numbers_in list.now))
 
-    by : (j : JobSpec) → IsFor j (Files list end moved) → HoldsValues j w vs → HoldsValues j v (vs ++ ws)
-    by (WordCount keep_case) k h = absurd k
-    by (LinesWith literal fold) k h = absurd k
-    by Resources k h = absurd k
-    by (NthField separator number) k h = absurd k
-    by (InvertedIndex keep_case) k h = (
+    by : (form : GroupText) → IsTallyFor form (Files list end moved) → HoldsFor form w vs → HoldsFor form v (vs ++ ws)
+    by Count k h = absurd k
+    by Lines k h = absurd k
+    by Listing k h = (
       total ∙ h.0,
-      text ∙ (λ i. h.1 i ++ values_text listing [] (h.2 i) ws)
-          ∙ append_assoc w.key (9 ∷ values_text listing [] None vs) (values_text listing [] (last_file None vs) ws)
+      text ∙ (λ i. h.1 i ++ values_text Listing [] (h.2 i) ws)
+          ∙ append_assoc w.key (9 ∷ values_text Listing [] None vs) (values_text Listing [] (last_file None vs) ws)
           ∙ (λ i. sym key i ++ 9 ∷ sym (text-more None vs ws) i),
       last ∙ ap (λ (o : Option ℕ). last_file o ws) h.2 ∙ sym (last-more None vs ws),
     )
@@ -114,7 +109,7 @@ take-apart job line old begun new (Some g) out out' apart h e some key none hold
   (same ∙ some, kept ∙ key, holds [] none),
   inr (
     refl,
-    e ∙ ap (λ (l : List ℕ). out ++ l) (append-nil (written job g)),
+    e ∙ ap (λ (l : List ℕ). out ++ l) (append-nil (written (group_text_of job) g)),
     elim (apart h.0) [ inl ne ↦ inl (λ is. ne (h.1 ∙ is)) | inr lines ↦ inr lines ],
   ),
 )

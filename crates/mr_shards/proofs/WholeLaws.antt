@@ -5,7 +5,9 @@ use Rattle.std.specs.List.{AllByRecursion, flat_map}
 use Rattle.std.specs.Str.{bytes_eq}
 use Rattle.mr_bytes.specs.declared.Value.{Value}
 use Rattle.mr_bytes.specs.Lists.{Has}
-use Rattle.mr_jobs.specs.JobSpec.{JobSpec, RequestSpec, LinesWith}
+use Rattle.mr_jobs.specs.JobSpec.{RequestSpec, group_text_of}
+use Rattle.mr_jobs.specs.declared.job.GroupText.{GroupText}
+use Rattle.mr_jobs.specs.declared.job.GroupText.TheVariants.{Lines}
 use Rattle.mr_bytes.specs.Cut.{Lacks}
 use Rattle.mr_reduce.specs.Text.{place_line}
 use Rattle.mr_bytes.specs.Pairs.{Triple}
@@ -15,7 +17,7 @@ use Rattle.mr_sequential.specs.Sequential.{keys_of, triples_with, values_of}
 use Rattle.mr_sequential.proofs.KeyLaws.{bytes_eq-same, keys_rise}
 use Rattle.mr_bytes.proofs.ListLaws.{all_from_Has, Has-map_from}
 use Rattle.mr_sequential.proofs.SourceLemmas.{flat_map-append}
-use Rattle.mr_shards.specs.Merged.{Group, group_for, group_text, texts, with_group, merged}
+use Rattle.mr_shards.specs.Merged.{Group, group_for, group_text_for, texts_for, with_group, merged}
 use Rattle.mr_shards.specs.Outputs.{IsJudged}
 use Rattle.mr_shards.specs.Portions.{Portion, part_of}
 use Rattle.mr_shards.proofs.PairLemmas.{IsFinePair, IsCounted, pairs-fine}
@@ -53,30 +55,30 @@ few-values (u ∷ ts) k = by (bytes_eq u.key k) (few-values ts k)
     by false h = omega (arith, h)
 
 -- a group of fine pairs: its key has no line feed, its values can be counted, and there are some
-pub record IsFineGroup (job : JobSpec) (g : Group) : Type 0 where
+pub record IsFineGroup (form : GroupText) (g : Group) : Type 0 where
   pub clear : Lacks 10 g.key
   pub some : 0 < length g.values
   pub few : length g.values < 2 ^ 64
-  pub values : AllByRecursion (IsCounted job) g.values
+  pub values : AllByRecursion (IsCounted form) g.values
 
-fine-group : (job : JobSpec) (ts : List Triple) (k : List ℕ) → ((t : Triple) → Has ts t → IsFinePair job t) → length ts < 2 ^ 64 → Has (map (λ (t : Triple). t.key) ts) k → IsFineGroup job (group_for ts k)
-fine-group job ts k fine few h =
+fine-group : (form : GroupText) (ts : List Triple) (k : List ℕ) → ((t : Triple) → Has ts t → IsFinePair form t) → length ts < 2 ^ 64 → Has (map (λ (t : Triple). t.key) ts) k → IsFineGroup form (group_for ts k)
+fine-group form ts k fine few h =
     let w = Has-map_from (λ (t : Triple). t.key) ts k h in
     record {
       clear = subst (Lacks 10) w.2 (fine w.0 w.1).clear;
       some = some-value ts k w.0 w.1 w.2;
       few = omega (arith, few, few-values ts k);
-      values = all_from_Has (IsCounted job) (values_of ts k)
-          (λ v a. (let u = Has-map_from (λ (t : Triple). t.value) (triples_with ts k) v a in subst (IsCounted job) u.2 (fine u.0 (with-Has ts k u.0 u.1)).value_is));
+      values = all_from_Has (IsCounted form) (values_of ts k)
+          (λ v a. (let u = Has-map_from (λ (t : Triple). t.value) (triples_with ts k) v a in subst (IsCounted form) u.2 (fine u.0 (with-Has ts k u.0 u.1)).value_is));
     }
 
-pub groups-fine : (request : RequestSpec) (s : Portion) (p : ℕ) → 0 < request.split → IsJudged request s → AllByRecursion (IsFineGroup request.job) (part_of request p s).groups
+pub groups-fine : (request : RequestSpec) (s : Portion) (p : ℕ) → 0 < request.split → IsJudged request s → AllByRecursion (IsFineGroup (group_text_of request.job)) (part_of request p s).groups
 groups-fine request s p some judged =
     let ts : List Triple = emitted request.job request.split s.files s.skips in
     let ks : List (List ℕ) = keys_of (part request) (map (λ (t : Triple). t.key) ts) p in
-    all_from_Has (IsFineGroup request.job) (map (group_for ts) ks)
+    all_from_Has (IsFineGroup (group_text_of request.job)) (map (group_for ts) ks)
     (λ g h. (let w = Has-map_from (group_for ts) ks g h in
-    subst (IsFineGroup request.job) w.2 (fine-group request.job ts w.0 (λ t a. pairs-fine request s t some judged a) judged.few_pairs (((keys_rise (part request) (map (λ (t : Triple). t.key) ts) p).1 w.0).0 w.1).0)))
+    subst (IsFineGroup (group_text_of request.job)) w.2 (fine-group (group_text_of request.job) ts w.0 (λ t a. pairs-fine request s t some judged a) judged.few_pairs (((keys_rise (part request) (map (λ (t : Triple). t.key) ts) p).1 w.0).0 w.1).0)))
 
 -- ---- the lines of groups: of a total one for each group, of places one for each value
 
@@ -84,18 +86,17 @@ unfoldable pub one-each : List ℕ → List Value → List Group
 one-each k [] = []
 one-each k (v ∷ vs) = record { key = k; values = v ∷ [] } ∷ one-each k vs
 
-each-text : (literal : List ℕ) (fold : Bool) (k : List ℕ) (vs : List Value) → texts (LinesWith literal fold) (one-each k vs) ≡ flat_map (place_line k) vs
+each-text : (k : List ℕ) (vs : List Value) → texts_for Lines (one-each k vs) ≡ flat_map (place_line k) vs
 unfolding one-each
-each-text literal fold k [] = refl
-each-text literal fold k (v ∷ vs) =
-    ap (λ (l : List ℕ). l ++ texts (LinesWith literal fold) (one-each k vs)) (append-nil (place_line k v)) ∙ ap (λ (l : List ℕ). place_line k v ++ l) (each-text literal fold k vs)
+each-text k [] = refl
+each-text k (v ∷ vs) = ap (λ (l : List ℕ). l ++ texts_for Lines (one-each k vs)) (append-nil (place_line k v)) ∙ ap (λ (l : List ℕ). place_line k v ++ l) (each-text k vs)
 
-pub all-texts : (literal : List ℕ) (fold : Bool) (gs : List Group) → texts (LinesWith literal fold) (flat_map (λ (g : Group). one-each g.key g.values) gs) ≡ texts (LinesWith literal fold) gs
-all-texts literal fold [] = refl
-all-texts literal fold (g ∷ gs) =
-    flat_map-append (group_text (LinesWith literal fold)) (one-each g.key g.values) (flat_map (λ (h : Group). one-each h.key h.values) gs)
-    ∙ ap (λ (l : List ℕ). l ++ texts (LinesWith literal fold) (flat_map (λ (h : Group). one-each h.key h.values) gs)) (each-text literal fold g.key g.values)
-    ∙ ap (λ (l : List ℕ). flat_map (place_line g.key) g.values ++ l) (all-texts literal fold gs)
+pub all-texts : (gs : List Group) → texts_for Lines (flat_map (λ (g : Group). one-each g.key g.values) gs) ≡ texts_for Lines gs
+all-texts [] = refl
+all-texts (g ∷ gs) =
+    flat_map-append (group_text_for Lines) (one-each g.key g.values) (flat_map (λ (h : Group). one-each h.key h.values) gs)
+    ∙ ap (λ (l : List ℕ). l ++ texts_for Lines (flat_map (λ (h : Group). one-each h.key h.values) gs)) (each-text g.key g.values)
+    ∙ ap (λ (l : List ℕ). flat_map (place_line g.key) g.values ++ l) (all-texts gs)
 
 -- ---- lines merge as their groups do
 

@@ -5,10 +5,11 @@ use Rattle.std.specs.List.{AllByRecursion}
 use Rattle.std.specs.Ordering.{is_lt}
 use Rattle.std.specs.declared.cmp.Ordering.TheVariants.{Less}
 use Rattle.mr_bytes.specs.Order.{key_order}
-use Rattle.mr_jobs.specs.JobSpec.{JobSpec}
+use Rattle.mr_jobs.specs.JobSpec.{JobSpec, group_text_of}
+use Rattle.mr_jobs.specs.declared.job.GroupText.{GroupText}
+use Rattle.mr_jobs.specs.declared.job.GroupText.TheVariants.{Count, Lines, Files as Listing}
 use Rattle.mr_group.specs.FirstBytes.{AreBytes, first_bytes}
 use Rattle.mr_bytes.specs.Cut.{Lacks}
-use Rattle.mr_jobs.specs.JobSpec.{WordCount, LinesWith, Resources, InvertedIndex, NthField}
 use Rattle.mr_shards.specs.declared.cursor.Cursor.{Cursor}
 use Rattle.mr_shards.specs.declared.cursor.Held.{Held}
 use Rattle.mr_shards.specs.declared.line.Tally.{Tally}
@@ -57,16 +58,14 @@ pairs_told (Total n) = n
 pairs_told (Place file offset) = 1
 pairs_told (Files list last moved) = 0
 
-abbrev pub pairs_in : JobSpec → Group → ℕ
-pairs_in (WordCount keep_case) g = length g.values
-pairs_in (LinesWith literal fold) g = length g.values
-pairs_in Resources g = length g.values
-pairs_in (NthField separator number) g = length g.values
-pairs_in (InvertedIndex keep_case) g = 0
+abbrev pub pairs_in : GroupText → Group → ℕ
+pairs_in Count g = length g.values
+pairs_in Lines g = length g.values
+pairs_in Listing g = 0
 
 unfoldable pub all_pairs : JobSpec → List Group → ℕ
 all_pairs job [] = 0
-all_pairs job (g ∷ gs) = pairs_in job g + all_pairs job gs
+all_pairs job (g ∷ gs) = pairs_in (group_text_of job) g + all_pairs job gs
 
 -- the sum, where it fits
 abbrev pub with_pairs : Option ℕ → ℕ → Option ℕ
@@ -155,7 +154,7 @@ abbrev pub Goes : JobSpec → Option Group → Group → Group → List ℕ → 
 Goes job None g next old new = (next ≡ g) × (new ≡ old)
 Goes job (Some w) g next old new =
     ((w.key ≡ g.key) × (next ≡ joined w g) × (new ≡ old))
-    ⊎ ((next ≡ g) × (new ≡ old ++ written job w) × ((w.key ≡ g.key → ⊥) ⊎ (joins job ≡ false)))
+    ⊎ ((next ≡ g) × (new ≡ old ++ written (group_text_of job) w) × ((w.key ≡ g.key → ⊥) ⊎ (joins job ≡ false)))
 
 -- groups with the one that waits
 abbrev pub with_waiting : Option Group → List Group → List Group

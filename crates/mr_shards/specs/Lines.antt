@@ -6,7 +6,9 @@ use Rattle.std.specs.declared.cmp.Ordering.TheVariants.{Less}
 use Rattle.mr_bytes.specs.declared.Value.{Value}
 use Rattle.mr_bytes.specs.declared.Value.TheVariants.{One, At}
 use Rattle.mr_bytes.specs.Order.{key_order}
-use Rattle.mr_jobs.specs.JobSpec.{JobSpec, WordCount, LinesWith, Resources, InvertedIndex, NthField, has_lines}
+use Rattle.mr_jobs.specs.JobSpec.{JobSpec, group_text_of, has_lines}
+use Rattle.mr_jobs.specs.declared.job.GroupText.{GroupText}
+use Rattle.mr_jobs.specs.declared.job.GroupText.TheVariants.{Count, Lines, Files}
 use Rattle.mr_bytes.specs.Lists.{Rises}
 use Rattle.std.specs.Ordering.{nat_cmp}
 use Rattle.mr_bytes.specs.Cut.{Lacks}
@@ -61,28 +63,28 @@ abbrev pub places_in : List ℕ → List Value
 places_in files = map (λ file. At file 0) files
 
 -- the values that a line states behind its last tab: so many, a place, or a place in each file of an index
-abbrev pub values_in : JobSpec → List ℕ → List Value
-values_in (WordCount keep_case) told = replicate (digits_value 10 told) One
-values_in (LinesWith literal fold) told = At (digits_value 10 (before_byte 58 told)) (digits_value 10 (after_first 58 told)) ∷ []
-values_in Resources told = replicate (digits_value 10 told) One
-values_in (NthField separator number) told = replicate (digits_value 10 told) One
-values_in (InvertedIndex keep_case) told = places_in (numbers_in told)
+abbrev pub values_in : GroupText → List ℕ → List Value
+values_in Count told = replicate (digits_value 10 told) One
+values_in Lines told = At (digits_value 10 (before_byte 58 told)) (digits_value 10 (after_first 58 told)) ∷ []
+values_in Files told = places_in (numbers_in told)
 
 -- the group that a line tells
-abbrev pub group_in : JobSpec → List ℕ → Group
-group_in job line = record { key = before_last 9 line; values = values_in job (after_last 9 line) }
+abbrev pub group_in : GroupText → List ℕ → Group
+group_in form line = record { key = before_last 9 line; values = values_in form (after_last 9 line) }
 
 -- the groups that the lines of a text tell
+abbrev pub groups_for : GroupText → List ℕ → List Group
+groups_for form text = map (group_in form) (lines text)
+
+-- the groups that the lines of a job's text tell
 abbrev pub groups_in : JobSpec → List ℕ → List Group
-groups_in job text = map (group_in job) (lines text)
+groups_in job text = groups_for (group_text_of job) text
 
 -- no line feed in the key, and a number that fits in 64 bits, or a place, or a place in each of some files that rise
-abbrev pub HasLine : JobSpec → Group → Type 0
-HasLine (WordCount keep_case) g = Lacks 10 g.key × (length g.values < 2 ^ 64) × (g.values ≡ replicate (length g.values) One)
-HasLine (LinesWith literal fold) g = Lacks 10 g.key × ((file : ℕ) × (offset : ℕ) × (file < 2 ^ 64) × (offset < 2 ^ 64) × (g.values ≡ At file offset ∷ []))
-HasLine Resources g = Lacks 10 g.key × (length g.values < 2 ^ 64) × (g.values ≡ replicate (length g.values) One)
-HasLine (NthField separator number) g = Lacks 10 g.key × (length g.values < 2 ^ 64) × (g.values ≡ replicate (length g.values) One)
-HasLine (InvertedIndex keep_case) g = Lacks 10 g.key × ((n : ℕ) × (ns : List ℕ) × Rises nat_cmp (n ∷ ns) × AllByRecursion (λ m. m < 2 ^ 64) (n ∷ ns) × (g.values ≡ places_in (n ∷ ns)))
+abbrev pub HasLine : GroupText → Group → Type 0
+HasLine Count g = Lacks 10 g.key × (length g.values < 2 ^ 64) × (g.values ≡ replicate (length g.values) One)
+HasLine Lines g = Lacks 10 g.key × ((file : ℕ) × (offset : ℕ) × (file < 2 ^ 64) × (offset < 2 ^ 64) × (g.values ≡ At file offset ∷ []))
+HasLine Files g = Lacks 10 g.key × ((n : ℕ) × (ns : List ℕ) × Rises nat_cmp (n ∷ ns) × AllByRecursion (λ m. m < 2 ^ 64) (n ∷ ns) × (g.values ≡ places_in (n ∷ ns)))
 
 -- no key is before an earlier one
 abbrev pub NoneFalls : List Group → Type 0
@@ -91,4 +93,4 @@ NoneFalls (g ∷ gs) = AllByRecursion (λ h. key_order h.key g.key ≡ Less → 
 
 -- a text of lines has one reading
 abbrev pub OneReading : Type 0
-OneReading = (job : JobSpec) (gs : List Group) → AllByRecursion (HasLine job) gs → groups_in job (texts job gs) ≡ gs
+OneReading = (job : JobSpec) (gs : List Group) → AllByRecursion (HasLine (group_text_of job)) gs → groups_in job (texts job gs) ≡ gs

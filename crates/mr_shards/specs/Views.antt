@@ -2,10 +2,11 @@
 use Rattle.std.specs.Prelude.{Bool, true, false, ◌≡◌, ℕ, ◌+◌, ◌<◌, ◌^◌, List, [], ◌∷◌, ◌++◌, Option, None, Some, map, replicate, decimal}
 use Rattle.mr_bytes.specs.declared.Value.{Value}
 use Rattle.mr_bytes.specs.declared.Value.TheVariants.{One, At}
-use Rattle.mr_jobs.specs.JobSpec.{JobSpec, WordCount, LinesWith, Resources, InvertedIndex, NthField}
+use Rattle.mr_jobs.specs.JobSpec.{JobSpec, group_text_of}
 use Rattle.std.specs.List.{flat_map}
 use Rattle.mr_bytes.specs.Cut.{Lacks}
-use Rattle.mr_jobs.specs.declared.job.GroupText.TheVariants.{Files as listing}
+use Rattle.mr_jobs.specs.declared.job.GroupText.{GroupText}
+use Rattle.mr_jobs.specs.declared.job.GroupText.TheVariants.{Count, Lines, Files as Listing}
 use Rattle.mr_reduce.specs.Text.{place_line}
 use Rattle.mr_reduce.specs.Writing.{last_file, values_text}
 use Rattle.mr_shards.specs.declared.line.Line.{Line}
@@ -30,23 +31,16 @@ group_of l = record { key = l.key.now; values = values_of l.tally }
 abbrev pub IsListTo : ℕ → List ℕ → Type 0
 IsListTo last list = (last < 2 ^ 32) × ((ns : List ℕ) × IsFileList (last + 1) list ns × Has ns last)
 
--- the job's lines tell so
+-- a line states so much behind its tab: a total, a place, or a list of files
+abbrev pub IsParsedFor : GroupText → Tally → List ℕ → Type 0
+IsParsedFor Count (Total n) told = (told ≡ decimal n) × (n < 2 ^ 64)
+IsParsedFor Lines (Place file offset) told = (told ≡ decimal file ++ 58 ∷ decimal offset) × (file < 2 ^ 32) × (offset < 2 ^ 64)
+IsParsedFor Listing (Files list last moved) told = (told ≡ list.now) × (moved ≡ no_shift) × IsListTo last told
+IsParsedFor form tally told = ⊥
+
+-- a line of the job states so much behind its tab
 abbrev pub IsParsed : JobSpec → Tally → List ℕ → Type 0
-IsParsed (WordCount keep_case) (Total n) told = (told ≡ decimal n) × (n < 2 ^ 64)
-IsParsed (WordCount keep_case) (Place file offset) told = ⊥
-IsParsed (WordCount keep_case) (Files list last moved) told = ⊥
-IsParsed (LinesWith literal fold) (Total n) told = ⊥
-IsParsed (LinesWith literal fold) (Place file offset) told = (told ≡ decimal file ++ 58 ∷ decimal offset) × (file < 2 ^ 32) × (offset < 2 ^ 64)
-IsParsed (LinesWith literal fold) (Files list last moved) told = ⊥
-IsParsed Resources (Total n) told = (told ≡ decimal n) × (n < 2 ^ 64)
-IsParsed (NthField separator number) (Total n) told = (told ≡ decimal n) × (n < 2 ^ 64)
-IsParsed Resources (Place file offset) told = ⊥
-IsParsed (NthField separator number) (Place file offset) told = ⊥
-IsParsed Resources (Files list last moved) told = ⊥
-IsParsed (NthField separator number) (Files list last moved) told = ⊥
-IsParsed (InvertedIndex keep_case) (Total n) told = ⊥
-IsParsed (InvertedIndex keep_case) (Place file offset) told = ⊥
-IsParsed (InvertedIndex keep_case) (Files list last moved) told = (told ≡ list.now) × (moved ≡ no_shift) × IsListTo last told
+IsParsed job tally told = IsParsedFor (group_text_of job) tally told
 
 -- the text begins with a line of the job
 pub record BeginsWithLine (job : JobSpec) (text : List ℕ) : Type 0 where
@@ -58,23 +52,16 @@ pub record BeginsWithLine (job : JobSpec) (text : List ℕ) : Type 0 where
   pub clear : Lacks 10 key
   pub tells : IsParsed job tally told
 
--- the job's lines tell such; the files of an index fit in 32 bits, as they are moved
+-- a line states a total, a place, or a list of files that fit in 32 bits, as they are moved
+abbrev pub IsTallyFor : GroupText → Tally → Type 0
+IsTallyFor Count (Total n) = Unit {0}
+IsTallyFor Lines (Place file offset) = Unit {0}
+IsTallyFor Listing (Files list last moved) = IsListTo last list.now × (moved.files + last < 2 ^ 32)
+IsTallyFor form tally = ⊥
+
+-- a line of the job states such
 abbrev pub IsFor : JobSpec → Tally → Type 0
-IsFor (WordCount keep_case) (Total n) = Unit {0}
-IsFor (WordCount keep_case) (Place file offset) = ⊥
-IsFor (WordCount keep_case) (Files list last moved) = ⊥
-IsFor (LinesWith literal fold) (Total n) = ⊥
-IsFor (LinesWith literal fold) (Place file offset) = Unit {0}
-IsFor (LinesWith literal fold) (Files list last moved) = ⊥
-IsFor Resources (Total n) = Unit {0}
-IsFor (NthField separator number) (Total n) = Unit {0}
-IsFor Resources (Place file offset) = ⊥
-IsFor (NthField separator number) (Place file offset) = ⊥
-IsFor Resources (Files list last moved) = ⊥
-IsFor (NthField separator number) (Files list last moved) = ⊥
-IsFor (InvertedIndex keep_case) (Total n) = ⊥
-IsFor (InvertedIndex keep_case) (Place file offset) = ⊥
-IsFor (InvertedIndex keep_case) (Files list last moved) = IsListTo last list.now × (moved.files + last < 2 ^ 32)
+IsFor job tally = IsTallyFor (group_text_of job) tally
 
 -- as it stands in the output
 abbrev pub IsUnshifted : Tally → Type 0
@@ -96,12 +83,14 @@ abbrev pub nothing_waits : Waits
 nothing_waits = record { some = false; key = []; total = 0; text = []; last = None }
 
 -- these values wait: so many, or their lines, or the line of an index without its end
+abbrev pub HoldsFor : GroupText → Waits → List Value → Type 0
+HoldsFor Count w vs = vs ≡ replicate w.total One
+HoldsFor Lines w vs = (w.total ≡ 0) × (w.text ≡ flat_map (place_line w.key) vs)
+HoldsFor Listing w vs = (w.total ≡ 0) × (w.text ≡ w.key ++ 9 ∷ values_text Listing [] None vs) × (w.last ≡ last_file None vs)
+
+-- these values of a job wait
 abbrev pub HoldsValues : JobSpec → Waits → List Value → Type 0
-HoldsValues (WordCount keep_case) w vs = vs ≡ replicate w.total One
-HoldsValues (LinesWith literal fold) w vs = (w.total ≡ 0) × (w.text ≡ flat_map (place_line w.key) vs)
-HoldsValues Resources w vs = vs ≡ replicate w.total One
-HoldsValues (NthField separator number) w vs = vs ≡ replicate w.total One
-HoldsValues (InvertedIndex keep_case) w vs = (w.total ≡ 0) × (w.text ≡ w.key ++ 9 ∷ values_text listing [] None vs) × (w.last ≡ last_file None vs)
+HoldsValues job w vs = HoldsFor (group_text_of job) w vs
 
 -- this group waits, or none
 abbrev pub WaitsFor : JobSpec → Waits → Option Group → Type 0

@@ -1,4 +1,5 @@
 use Rattle.std.proofs.Common.{refl, ◌++◌, ◌∷◌, sym, subst}
+use Rattle.mr_jobs.specs.JobSpec.{group_text_of}
 use Rattle.mr_shards.specs.Views.{IsParsed}
 use Rattle.mr_shards.proofs.LineLemmas.{Lacks-front, begun-same, begun-told, cut-read, cut-text, there, told-for, told-still}
 use Rattle.mr_bytes.specs.Cut.{Lacks}
@@ -6,18 +7,18 @@ use Rattle.mr_shards.proofs.line.parse_line.Goals as goal
 
 pub returns-clause-read : goal.returns-clause-read
 returns-clause-read c = λ rest.
-    cut-read c.args.job.now c.in-Some-tally_of.tally (c.args.line.now ++ 10 ∷ rest) c.args.line.now c.in-Some.key.now c.in-Some.told.now rest
+    cut-read (group_text_of c.args.job.now) c.in-Some-tally_of.tally (c.args.line.now ++ 10 ∷ rest) c.args.line.now c.in-Some.key.now c.in-Some.told.now rest
     (record { first = refl; clear = c.requires; last = c.in-Some.ensures.0 }) c.in-Some-tally_of.ensures
 
 pub returns-clause-kind : goal.returns-clause-kind
-returns-clause-kind c = told-for c.args.job.now c.in-Some-tally_of.tally c.in-Some.told.now c.in-Some-tally_of.ensures
+returns-clause-kind c = told-for (group_text_of c.args.job.now) c.in-Some-tally_of.tally c.in-Some.told.now c.in-Some-tally_of.ensures
 
 pub returns-clause-still : goal.returns-clause-still
-returns-clause-still c = told-still c.args.job.now c.in-Some-tally_of.tally c.in-Some.told.now c.in-Some-tally_of.ensures
+returns-clause-still c = told-still (group_text_of c.args.job.now) c.in-Some-tally_of.tally c.in-Some.told.now c.in-Some-tally_of.ensures
 
 pub returns-clause-text : goal.returns-clause-text
 returns-clause-text c = λ rest.
-    cut-text c.args.job.now c.in-Some-tally_of.tally (c.args.line.now ++ 10 ∷ rest) c.args.line.now c.in-Some.key.now c.in-Some.told.now rest
+    cut-text (group_text_of c.args.job.now) c.in-Some-tally_of.tally (c.args.line.now ++ 10 ∷ rest) c.args.line.now c.in-Some.key.now c.in-Some.told.now rest
     (record { first = refl; clear = c.requires; last = c.in-Some.ensures.0 }) c.in-Some-tally_of.ensures
 
 pub returns-in_default-clause-none : goal.returns-in_default-clause-none
