@@ -69,23 +69,11 @@ states_one Files line k m h g = h ∙ sym g
 
 states_count : (form : GroupText) (line : List ℕ) (n : ℕ) → is_count form ≡ true → EndsInCount line n → StatesFor form line n
 states_count Count line n e h = h
-states_count Lines line n e h = absurd (cc e)
-states_count Files line n e h = absurd (cc e)
+states_count form line n e h = absurd (cc e)
 
 count_stated : (form : GroupText) (line : List ℕ) (n : ℕ) → is_count form ≡ true → StatesFor form line n → EndsInCount line n
 count_stated Count line n e h = h
-count_stated Lines line n e h = absurd (cc e)
-count_stated Files line n e h = absurd (cc e)
-
-pub one_stated : (form : GroupText) (line : List ℕ) → is_lines form ≡ true → StatesFor form line 1
-one_stated Count line h = absurd (cc h)
-one_stated Lines line h = refl
-one_stated Files line h = absurd (cc h)
-
-pub none_stated : (form : GroupText) (line : List ℕ) → is_count form ≡ false → is_lines form ≡ false → StatesFor form line 0
-none_stated Count line e h = absurd (cc e)
-none_stated Lines line e h = absurd (cc h)
-none_stated Files line e h = refl
+count_stated form line n e h = absurd (cc e)
 
 -- this is the number that a line states, or none fits
 abbrev pub IsStated : JobSpec → List ℕ → Option ℕ → Type 0
@@ -234,16 +222,6 @@ module _ (job : JobSpec) (passed held : List ℕ) (k : ℕ) (a b r : Option ℕ)
       open_total job (passed ++ held) (λ e. open_end (passed ++ take k held) (drop k held) clear some (subst EndsLine (sym same) e))
 
 -- ---- the total of a verdict
-
-pub total_fits : (form : GroupText) {fact : Type 0} → fact → UnlessFiles form fact
-total_fits Count h = h
-total_fits Lines h = h
-total_fits Files h = tt
-
-pub index_fits : (form : GroupText) (fact : Type 0) → is_count form ≡ false → is_lines form ≡ false → UnlessFiles form fact
-index_fits Count fact e h = absurd (cc e)
-index_fits Lines fact e h = absurd (cc h)
-index_fits Files fact e h = tt
 
 fits_total : (form : GroupText) {fact : Type 0} → (is_count form ≡ true) ⊎ (is_lines form ≡ true) → UnlessFiles form fact → fact
 fits_total Count w h = h

@@ -21,6 +21,7 @@ StatesFor Count line n = EndsInCount line n
 StatesFor Lines line n = n ≡ 1
 StatesFor Files line n = n ≡ 0
 
+-- a line of the job states so many pairs
 abbrev pub States : JobSpec → List ℕ → ℕ → Type 0
 States job line n = StatesFor (group_text_of job) line n
 
@@ -41,12 +42,13 @@ HaveTotal job texts n = AllByRecursion EndsLine texts × StateTogether job (flat
 abbrev pub IsTotalOf : JobSpec → List (List ℕ) → Option ℕ → Type 0
 IsTotalOf job texts total = MatchOption total ((n : ℕ) → n < 2 ^ 64 → HaveTotal job texts n → ⊥) (HaveTotal job texts)
 
--- so many pairs are what the texts state; those of an index tell no number of pairs
+-- the fact holds where lines tell pairs; those of an index tell none
 abbrev pub UnlessFiles : GroupText → Type 0 → Type 0
 UnlessFiles Count fact = fact
 UnlessFiles Lines fact = fact
 UnlessFiles Files fact = ⊤
 
+-- so many pairs are what the texts state; those of an index tell no number of pairs
 abbrev pub TotalFits : JobSpec → List (List ℕ) → ℕ → Type 0
 TotalFits job texts n = UnlessFiles (group_text_of job) (HaveTotal job texts n)
 

@@ -66,6 +66,10 @@ words-shifted : (s : Shift) (value : Value) (keep_case : Bool) (line : List ℕ)
 words-shifted s value keep_case line =
     sym (map-two (shifted_pair s) (word_emission value keep_case line) (word_emission (shifted_value s value) keep_case line) (word_spans line) (λ w. refl))
 
+one-shifted : (s : Shift) (o : Option (List ℕ)) → one_for o ≡ map (shifted_pair s) (one_for o)
+one-shifted s None = refl
+one-shifted s (Some key) = refl
+
 emissions-shifted : (job : JobSpec) (s : Shift) (file start : ℕ) (line : List ℕ)
     → emissions job (s.files + file) (shifted_start s file start) line ≡ map (shifted_pair s) (emissions job file start line)
 emissions-shifted (WordCount keep_case) s file start line = words-shifted s One keep_case line
@@ -74,16 +78,8 @@ emissions-shifted (LinesWith literal fold) s file start line = by (holds fold li
     by : (t : Bool) → cond t ((line, At (s.files + file) (shifted_start s file start)) ∷ []) [] ≡ map (shifted_pair s) (cond t ((line, At file start) ∷ []) [])
     by true = refl
     by false = refl
-emissions-shifted Resources s file start line = by (url_of line)
-  where
-    by : (o : Option (List ℕ)) → one_for o ≡ map (shifted_pair s) (one_for o)
-    by None = refl
-    by (Some key) = refl
-emissions-shifted (NthField separator number) s file start line = by (field_of separator number line)
-  where
-    by : (o : Option (List ℕ)) → one_for o ≡ map (shifted_pair s) (one_for o)
-    by None = refl
-    by (Some key) = refl
+emissions-shifted Resources s file start line = one-shifted s (url_of line)
+emissions-shifted (NthField separator number) s file start line = one-shifted s (field_of separator number line)
 emissions-shifted (InvertedIndex keep_case) s file start line = words-shifted s (At file start) keep_case line
 
 pub kept-shifted : (job : JobSpec) (s : Shift) (ts : List Bool) (bs : List Bare) → kept_pairs job ts (map (shifted_bare s) bs) ≡ map (shifted_pair s) (kept_pairs job ts bs)

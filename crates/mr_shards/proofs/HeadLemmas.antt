@@ -24,9 +24,6 @@ use Rattle.mr_shards.proofs.LineLemmas.{there}
 use Rattle.mr_shards.proofs.ReadingLemmas.{none-read}
 use Rattle.mr_shards.proofs.RefusedLemmas.{front-read, front-text, none-begins, read-end, read-line, rest-before, weaker}
 
-pub no-groups : (job : JobSpec) → groups_in job [] ≡ []
-no-groups job = none-read (group_text_of job)
-
 -- a cursor at a line, or at the end
 abbrev pub cursor-at : Held → Option Line → List ℕ → List ℕ → Bool → Cursor
 cursor-at h head text rest is_last = record {
@@ -97,7 +94,7 @@ module _ (job : JobSpec) (h : Held) (text rest bytes : List ℕ) (is_last : Bool
 
 no-line : (job : JobSpec) (g : Group) (more : List ℕ) → IsLineOf job g → [] ≡ group_text job g ++ more → ⊥
 no-line job g more l e =
-    let none : [] ≡ g ∷ groups_in job more = sym (no-groups job) ∙ ap (groups_in job) e ∙ front-read job g more l in
+    let none : [] ≡ g ∷ groups_in job more = sym (none-read (group_text_of job)) ∙ ap (groups_in job) e ∙ front-read job g more l in
     cc none
 
 -- bytes without a line feed begin with no line
@@ -106,7 +103,7 @@ no-line-here job text clear g more l e = there 10 text (g.key ++ 9 ∷ l.told) m
 
 pub at-end : (job : JobSpec) (h : Held) (text rest : List ℕ) (is_last : Bool) → text ≡ [] → rest ≡ [] → IsAtLine job h text (cursor-at h None text rest is_last)
 at-end job h text rest is_last none end =
-    let empty : groups_in job text ≡ [] = ap (groups_in job) none ∙ no-groups job in
+    let empty : groups_in job text ≡ [] = ap (groups_in job) none ∙ none-read (group_text_of job) in
     let files : TellsFiles job h.count text = subst (AllByRecursion (λ (g : Group). AreInFiles h.count g.values)) (sym empty) tt in
     let rest_files : TellsFiles job h.count rest = subst (TellsFiles job h.count) (none ∙ sym end) files in
     record {

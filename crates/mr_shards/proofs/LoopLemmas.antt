@@ -10,7 +10,7 @@ use Rattle.mr_bytes.specs.Lists.{Has, Rises}
 use Rattle.mr_bytes.specs.Order.{key_order}
 use Rattle.mr_jobs.specs.JobSpec.{JobSpec, group_text_of, is_lines}
 use Rattle.mr_jobs.specs.declared.job.GroupText.{GroupText}
-use Rattle.mr_jobs.specs.declared.job.GroupText.TheVariants.{Count, Lines, Files}
+use Rattle.mr_jobs.specs.declared.job.GroupText.TheVariants.{Lines}
 use Rattle.mr_reduce.specs.Text.{place_line}
 use Rattle.mr_sequential.proofs.KeyLaws.{key_tie, with_key-cases}
 use Rattle.mr_bytes.proofs.ListLaws.{Has-all, all_from_Has}
@@ -54,9 +54,8 @@ front-places g (h ∷ hs) all = by (key_order g.key h.key) refl
 
 front-place : (form : GroupText) (g : Group) (gs : List Group) → not (is_lines form) ≡ false → AllByRecursion (λ k. NotLess k g.key) (keys gs)
     → flat_map (written form) (with_group g gs) ≡ written form g ++ flat_map (written form) gs
-front-place Count g gs lines all = absurd (cc lines)
 front-place Lines g gs lines all = front-places g gs all
-front-place Files g gs lines all = absurd (cc lines)
+front-place form g gs lines all = absurd (cc lines)
 
 -- keys of a group and those behind it
 pub with_group-behind : (k : List ℕ) (g : Group) (gs : List Group) (P : List ℕ → Type 0) → P g.key → AllByRecursion P (keys gs) → AllByRecursion P (keys (with_group g gs))
@@ -145,9 +144,6 @@ kept-step job outputs old new waiting line next out out' s read g k =
 
 -- ---- the ends of the loop
 
-no-groups : (job : JobSpec) → groups_in job [] ≡ []
-no-groups job = none-read (group_text_of job)
-
 stands-end : (job : JobSpec) (o : Option Line) (rest : List ℕ) → o ≡ None → IsHead job o rest → rest ≡ []
 stands-end job None rest e h = h
 stands-end job (Some l) rest e h = absurd (cc e)
@@ -159,7 +155,7 @@ all-stand job (c ∷ cs) ends kinds =
       record {
         rest = (
           record { groups = []; text_is = empty; lines = tt; in_turn = tt },
-          subst (AllByRecursion (λ (g : Group). AreInFiles c.held.count g.values)) (sym (ap (groups_in job) empty ∙ no-groups job)) tt,
+          subst (AllByRecursion (λ (g : Group). AreInFiles c.held.count g.values)) (sym (ap (groups_in job) empty ∙ none-read (group_text_of job))) tt,
         );
         in_order = subst (λ (o : Option Line). NoneFalls (headed o (map (shifted_group c.held.before) (groups_in job c.rest.now)))) (sym ends.0) tt;
       },

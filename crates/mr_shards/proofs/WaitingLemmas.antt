@@ -30,21 +30,19 @@ holds-total job t n w v vs is kind sum h = subst (λ (u : Tally). HoldsValues jo
 
     by : (form : GroupText) → IsTallyFor form (Total n) → HoldsFor form w vs → HoldsFor form v (vs ++ replicate n One)
     by Count k h = more h
-    by Lines k h = absurd k
-    by Listing k h = absurd k
+    by form k h = absurd k
 
 pub holds-place : (job : JobSpec) (t : Tally) (file offset : ℕ) (w v : Waits) (vs : List Value) → t ≡ Place file offset → IsFor job t → v.total ≡ w.total → v.key ≡ w.key
     → v.text ≡ w.text ++ text_of job w.key (At file offset ∷ []) → HoldsValues job w vs → HoldsValues job v (vs ++ values_of t)
 holds-place job t file offset w v vs is kind total key text h = subst (λ (u : Tally). HoldsValues job v (vs ++ values_of u)) (sym is) (by (group_text_of job) (subst (IsFor job) is kind) text h)
   where
     by : (form : GroupText) → IsTallyFor form (Place file offset) → v.text ≡ w.text ++ text_for form w.key (At file offset ∷ []) → HoldsFor form w vs → HoldsFor form v (vs ++ At file offset ∷ [])
-    by Count k e h = absurd k
     by Lines k e h = (
       total ∙ h.0,
       e ∙ ap (λ (l : List ℕ). l ++ flat_map (place_line w.key) (At file offset ∷ [])) h.1 ∙ sym (flat_map-append (place_line w.key) vs (At file offset ∷ []))
           ∙ ap (λ (k : List ℕ). flat_map (place_line k) (vs ++ At file offset ∷ [])) (sym key),
     )
-    by Listing k e h = absurd k
+    by form k e h = absurd k
 
 text-more : (o : Option ℕ) (vs ws : List Value) → values_text Listing [] o (vs ++ ws) ≡ values_text Listing [] o vs ++ values_text Listing [] (last_file o vs) ws
 text-more o [] ws = refl
@@ -68,8 +66,6 @@ holds-files job t list end moved w v vs is kind total key text last h =
     ws = map (shifted_value moved) (places_in (numbers_in list.now))
 
     by : (form : GroupText) → IsTallyFor form (Files list end moved) → HoldsFor form w vs → HoldsFor form v (vs ++ ws)
-    by Count k h = absurd k
-    by Lines k h = absurd k
     by Listing k h = (
       total ∙ h.0,
       text ∙ (λ i. h.1 i ++ values_text Listing [] (h.2 i) ws)
@@ -77,6 +73,7 @@ holds-files job t list end moved w v vs is kind total key text last h =
           ∙ (λ i. sym key i ++ 9 ∷ sym (text-more None vs ws) i),
       last ∙ ap (λ (o : Option ℕ). last_file o ws) h.2 ∙ sym (last-more None vs ws),
     )
+    by form k h = absurd k
 
 -- ---- a line is taken
 
