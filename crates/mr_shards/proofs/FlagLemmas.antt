@@ -1,5 +1,6 @@
 -- What flags tell.
-use Rattle.std.proofs.Common.{◌≡◌, ◌+◌, ◌<◌, refl, ap, arith, true, false}
+use Rattle.std.proofs.Common.{◌≡◌, ◌+◌, ◌<◌, cond, refl, ap, arith, true, false}
+use Rattle.std.proofs.lemmas.Bool.{ne_eqb}
 use Rattle.mr_bytes.specs.declared.By.{By}
 use Rattle.mr_bytes.specs.declared.By.TheVariants.{Host, Key}
 use Rattle.mr_jobs.specs.JobSpec.{ByFits, InvertedIndex, NthField, JobSpec, LinesWith, Resources, WordCount, by_flag, job_flags}
@@ -25,12 +26,5 @@ one_flag a b Host Host same = (omega (arith, same), refl)
 
 -- what chooses the partitions of a job is told by the flags
 pub by_of : (job : JobSpec) (by : By) → ByFits job by → by_told (job_flags job + by_flag by) ≡ by
-by_of (WordCount true) Key fits = refl
-by_of (WordCount false) Key fits = refl
-by_of (LinesWith literal true) Key fits = refl
-by_of (LinesWith literal false) Key fits = refl
-by_of Resources Key fits = refl
-by_of (NthField separator number) Key fits = refl
-by_of (InvertedIndex true) Key fits = refl
-by_of (InvertedIndex false) Key fits = refl
+by_of job Key fits = ap (λ b. cond b Host Key) (ne_eqb (job_flags job + 0) 4 (λ e. omega (arith, e, flags_below job)))
 by_of job Host fits = ap (λ j. by_told (job_flags j + 4)) fits

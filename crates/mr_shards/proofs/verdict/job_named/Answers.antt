@@ -1,17 +1,14 @@
 use Rattle.std.proofs.Common.{◌≡◌, ℕ, List, Option, None, Some, refl, sym, ap, ◌∙◌, arith}
 use Rattle.std.specs.Prelude.{MatchOption, Result, Ok, Err, IfOk}
-use Rattle.mr_jobs.specs.JobSpec.{CountsFieldsNamed, JobSpec, WordCount, LinesWith, Resources, InvertedIndex, NthField, RequestSpec, job_flags, job_number}
+use Rattle.mr_jobs.specs.JobSpec.{CountsFieldsNamed, JobSpec, NthField, RequestSpec, job_flags, job_number}
 use Rattle.mr_jobs.proofs.NameLemmas.{jobs_named}
 use Rattle.mr_shards.specs.Truth.{CanBeMade, NamesJob}
 use Rattle.mr_shards.specs.Verdict.{Told}
 use Rattle.mr_shards.proofs.verdict.job_named.Goals as goal
 
 no_flags : (job : JobSpec) → job_number job ≡ 5 → job_flags job ≡ 0
-no_flags (WordCount keep_case) e = absurd (omega (arith, e))
-no_flags (LinesWith literal fold) e = absurd (omega (arith, e))
-no_flags Resources e = absurd (omega (arith, e))
-no_flags (InvertedIndex keep_case) e = absurd (omega (arith, e))
 no_flags (NthField separator number) e = refl
+no_flags job e = absurd (omega (arith, e))
 
 abbrev IsOnly : Told → Option JobSpec → Type 0
 IsOnly v o = MatchOption o ((r : RequestSpec) → CanBeMade r → NamesJob v r → ⊥) (λ j. (r : RequestSpec) → CanBeMade r → NamesJob v r → j ≡ r.job)
