@@ -61,7 +61,7 @@ Exit status: 0 done, 1 no pair and --need-pairs, 2 usage or a limit, 3 a file th
         text: "Examples:
   mapred run --job words --parts 4 --out counts book.txt
   mapred run --job words --workers 8 --split 1048576 --out counts a.txt b.txt
-  mapred run --job words --script losses --history events --picture run.html --out counts book.txt
+  mapred run --job words --script losses --picture run.html --out n book.txt
   mapred run --job words --scratch regions --out counts book.txt
 
 A split is the work of one map task, a partition that of one reduce task: with smaller splits and more partitions more workers share the work.
