@@ -63,7 +63,7 @@ fn in_windows(
             window_at(row.first, at.0, wide),
             window_at(row.second, at.1, wide),
         ];
-        merger = merger.merge_round(alloc, job, &windows)?;
+        merger.merge_round(alloc, job, &windows)?;
         out.extend_from_slice(merger.text())?;
         let next = moved_on(at, merger.cuts());
         if windows[0].is_last && windows[1].is_last {

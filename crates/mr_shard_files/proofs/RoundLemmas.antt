@@ -1,18 +1,19 @@
 -- Parts that are merged in rounds.
 use Rattle.std.proofs.Common.{◌≡◌, ◌⊎◌, ℕ, zero, suc, inl, inr, get_or, string_bytes, ◌+◌, ◌<◌, ◌&&◌, true, List, [], ◌∷◌, ◌++◌, append_assoc, append-nil, length, length-append, take, drop, refl, ap, sym, ◌∙◌, subst, arith}
 use Rattle.std.proofs.lemmas.List.{length-take-le}
-use Rattle.std.proofs.lemmas.Result.{IfErr-at_err}
-use Rattle.std.specs.Prelude.{Err, IfErr, Option, Result}
+use Rattle.std.specs.Prelude.{Option}
 use Rattle.mr_jobs.specs.JobSpec.{JobSpec}
 use Rattle.mr_shards.specs.declared.shift.ShardFiles.{ShardFiles}
 use Rattle.mr_shards.specs.declared.merger.Window.{Window}
 use Rattle.mr_shards.specs.declared.merger.MergeFault.{MergeFault}
 use Rattle.mr_shards.specs.Refused.{Blames}
-use Rattle.mr_shards.specs.Rounds.{AreCounted, AreFresh, AreWindows, AreWithin, IsAfter, IsMerged, IsWindow, Reading, Standing, are_last, outputs_of, taken_on}
+use Rattle.mr_shards.specs.declared.cursor.Held.{Held}
+use Rattle.mr_shards.specs.Rounds.{AreCounted, AreFresh, AreReadUpTo, AreStanding, AreWindows, AreWithin, IsAfter, IsMerged, IsWindow, IsWithin, Reading, Standing, are_last, outputs_of, rests, taken_on}
+use Rattle.mr_shards.specs.Rounds.{Told as tells_so}
+use Rattle.mr_shards.specs.Views.{Waits, WaitsFor}
 use Rattle.mr_shards.specs.Verdict.{Told}
 use Rattle.mr_shard_files.specs.declared.stream.Part.{Part}
-use Rattle.mr_shard_files.specs.declared.fault.ShardFault.TheVariants.{OutOfMemory}
-use Rattle.mr_shard_files.specs.declared.rounds.Beside.{Beside}
+use Rattle.mr_shard_files.specs.Made.{Gives}
 use Rattle.mr_shard_files.specs.declared.rounds.Stop.{Stop}
 use Rattle.mr_shard_files.specs.declared.rounds.Stop.TheVariants as stop
 use Rattle.mr_shard_files.specs.Streams.{AllAre, AllMayBe, AreBlamed, AreHeld, AreUnsettled, AreWindowsOf, IsBlamedOver, IsNotBeside, IsRefused, IsStopped, IsStoppedAt, IsRoundFault, MayBe, Moves, OneIs, MergesHeld, ReportsUnread, all_done, is_done}
@@ -233,15 +234,11 @@ module _ {R : Type 0} (remaining : R → Option (List ℕ)) (can_fail : R → Ty
   -- what was stepped over is blamed, whatever the parts may be
   pub blamed_round : (job : JobSpec) (fs : List ShardFiles) (xs : List (List ℕ)) (bs os zs : List (Part R)) (m : Standing) (out : List ℕ) (filled : List (Part R)) (e : MergeFault)
       → AllAre (Moves remaining can_fail) xs bs os → Stands job fs xs os m out → AllAre Fills zs os filled → IsBlamedOver job filled m e → AreBlamed remaining can_fail job fs bs filled e
-  blamed_round job fs xs bs os zs m out filled e moved stands k b = record {
+  blamed_round job fs xs bs os zs m out filled e moved stands k (ws, shown, refuses) = record {
     passed = xs;
     moved = all_filled xs bs os filled zs moved k;
-    blamed = λ rs h. by rs h b;
+    blamed = λ rs h. refuses rs out (stands rs (fill_back fs xs os filled zs rs k h)) (windows_are fs xs filled ws rs h shown);
   }
-    where
-      by : (rs : List Reading) → AllMayBe fs xs filled rs → IsBlamedOver job filled m e → Blames job (outputs_of rs) e
-      by rs h (inl none) = subst (Blames job (outputs_of rs)) (sym none) tt
-      by rs h (inr (ws, shown, f)) = f rs out (stands rs (fill_back fs xs os filled zs rs k h)) (windows_are fs xs filled ws rs h shown)
 
   -- a merger that can't begin: the parts are not merged
   pub stopped_new : (job : JobSpec) (fs : List ShardFiles) (qs : List (Part R)) (e : MergeFault)
@@ -254,8 +251,8 @@ module _ {R : Type 0} (remaining : R → Option (List ℕ)) (can_fail : R → Ty
 
   -- what is not merged is no next round
   pub stopped_step : (unwritten : ShardFault → Type 0) (job : JobSpec) (os : List (Part R)) (m : Standing) (filled : List (Part R)) (e : Stop)
-      → AllAre Fills os os filled → IsStoppedAt job filled m e → IsRoundFault remaining can_fail unwritten job os filled m e
-  stopped_step unwritten job os m filled (stop.Part fault) k b = inl b
+      → AllAre Fills os os filled → IsStoppedAt job filled unwritten m e → IsRoundFault remaining can_fail unwritten job os filled m e
+  stopped_step unwritten job os m filled (stop.Part fault) k b = inr (inr b)
   stopped_step unwritten job os m filled (stop.Merge fault) k b = (k, b)
 
   -- where there is no next round, the parts are not merged
@@ -277,12 +274,19 @@ module _ {R : Type 0} (remaining : R → Option (List ℕ)) (can_fail : R → Ty
   pub refused_one : (xs : List (List ℕ)) (os ns : List (Part R)) (e : ShardFault) → AllAre (Moves remaining can_fail) xs os ns → AreUnsettled remaining can_fail p vs ns e → IsRefused remaining can_fail job fs p vs os e
   refused_one xs os ns e moved why = inr (inr (inl (record { mid = ns; passed = xs; moved = moved; why = why })))
 
--- what was not merged beside digests is not stepped over
-pub stopped_beside : {R : Type 0} (job : JobSpec) (qs : List (Part R)) (m : Standing) (merged : Result Standing MergeFault) (e : Stop) → IfErr merged (IsBlamedOver job qs m) → IsNotBeside merged e → IsStoppedAt job qs m e
-stopped_beside job qs m merged e blamed (inl none) = subst (IsStoppedAt job qs m) (sym none) refl
-stopped_beside job qs m merged e blamed (inr (fault, was, is)) = subst (IsStoppedAt job qs m) (sym is) (IfErr-at_err (IsBlamedOver job qs m) was blamed)
+-- windows on the parts that are not merged beside a write
+pub stopped_beside : {R : Type 0} (job : JobSpec) (qs : List (Part R)) (ws : List Window) (m : Standing) (unwritten : ShardFault → Type 0) (e : Stop)
+    → AreWindowsOf qs ws → IsNotBeside job ws m unwritten e → IsStoppedAt job qs unwritten m e
+stopped_beside job qs ws m unwritten (stop.Part fault) shown b = b
+stopped_beside job qs ws m unwritten (stop.Merge fault) shown b = (ws, shown, b)
 
--- nor is what was not, where that stands beside further digests
-pub stopped_all : {R : Type 0} (job : JobSpec) (qs : List (Part R)) (m : Standing) (beside : Result Beside Stop) (e : Stop) → IfErr beside (IsStoppedAt job qs m) → (e ≡ stop.Part OutOfMemory) ⊎ (beside ≡ Err e) → IsStoppedAt job qs m e
-stopped_all job qs m beside e stopped (inl none) = subst (IsStoppedAt job qs m) (sym none) refl
-stopped_all job qs m beside e stopped (inr was) = IfErr-at_err (IsStoppedAt job qs m) was stopped
+-- a merger that gave its text away has taken as much
+pub after_giving : (job : JobSpec) (rs : List Reading) (text : List ℕ) (m m' : Standing) → Gives m m' → IsAfter job rs text m → IsAfter job rs text m'
+after_giving job rs text m m' g a = record {
+  count = ap length g.held ∙ a.count;
+  read = subst (λ (hs : List Held). AreReadUpTo job hs rs) (sym g.held) a.read;
+  waiting = a.waiting;
+  waits = subst (λ (w : Waits). WaitsFor job w a.waiting) (sym g.waiting) a.waits;
+  few = subst (λ (hs : List Held). IsWithin job (outputs_of rs) (rests job hs rs) a.waiting) (sym g.held) a.few;
+  told = subst (λ (hs : List Held). AreStanding job hs rs → tells_so job (outputs_of rs) (rests job hs rs) a.waiting text) (sym g.held) a.told;
+}

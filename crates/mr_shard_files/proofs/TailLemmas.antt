@@ -1,15 +1,13 @@
 -- Digests that are taken beside a step, and kept behind it.
-use Rattle.std.proofs.Common.{◌≡◌, ℕ, zero, suc, ◌+◌, ◌<◌, List, [], ◌∷◌, ◌++◌, append_assoc, Option, length, length-append, get_or, drop, take, refl, ap, sym, ◌∙◌, subst, arith}
+use Rattle.std.proofs.Common.{◌≡◌, ℕ, zero, suc, ◌+◌, ◌<◌, List, [], ◌∷◌, ◌++◌, Option, length, get_or, drop, take, refl, ap, sym, ◌∙◌, subst, arith}
 use Rattle.std.proofs.lemmas.List.{take_more}
-use Rattle.std.proofs.Math.Seq.{drop-append_seam, take-append_seam}
 use Rattle.sha2.specs.declared.Sha256.{Sha256}
 use Rattle.mr_jobs.specs.JobSpec.{JobSpec}
 use Rattle.mr_shards.specs.declared.merger.Window.{Window}
 use Rattle.mr_shards.specs.Rounds.{Standing}
-use Rattle.mr_shard_files.specs.declared.partition.Made.{Made}
 use Rattle.mr_shard_files.specs.declared.stream.Part.{Part}
 use Rattle.mr_shard_files.specs.declared.tails.Tail.{Tail}
-use Rattle.mr_shard_files.specs.Streams.{AllAre, AreNext, AreNextWith, AreTailsOf, AreTaken, AreWindowsOf, HasMore, IsDigested, MergesHeld, Moves}
+use Rattle.mr_shard_files.specs.Streams.{AllAre, AreNext, AreTailsOf, AreTaken, AreWindowsOf, HasMore, IsDigested, MergesHeld, Moves}
 use Rattle.mr_shard_files.proofs.StreamLemmas.{done_so, moves_digested, moves_on}
 
 -- ---- tails
@@ -60,75 +58,6 @@ module _ {R : Type 0} where
   pub next_kept : (qs ns : List (Part R)) (hs : List Sha256) (i : ℕ) (d : Part R) (e : Sha256) → get_or ns i d ≡ get_or qs i d → AreNext qs hs → i < length qs
       → HasMore (get_or ns i d).hasher (drop (get_or ns i d).digested (get_or ns i d).held) (get_or hs i e)
   next_kept qs ns hs i d e same a less = subst (λ (q : Part R). HasMore q.hasher (drop q.digested q.held) (get_or hs i e)) (sym same) (next_at qs hs i d e a less)
-
--- the last of tails, and those before it
-record LastTaken (ts : List Tail) (t : Tail) (hs : List Sha256) : Type 0 where
-  pub first : List Sha256
-  pub last : Sha256
-  pub is : hs ≡ first ++ last ∷ []
-  pub taken : AreTaken ts first
-  pub more : HasMore t.hasher.now t.bytes.now last
-
-last_taken : (ts : List Tail) (t : Tail) (hs : List Sha256) → AreTaken (ts ++ t ∷ []) hs → LastTaken ts t hs
-last_taken [] t [] a = absurd a
-last_taken [] t (h ∷ []) a = record { first = []; last = h; is = refl; taken = tt; more = a.0 }
-last_taken [] t (h ∷ k ∷ hs) a = absurd a.1
-last_taken (u ∷ ts) t [] a = absurd a
-last_taken (u ∷ ts) t (h ∷ hs) a =
-    let r = last_taken ts t hs a.1 in
-    record { first = h ∷ r.first; last = r.last; is = ap (λ l. h ∷ l) r.is; taken = (a.0, r.taken); more = r.more }
-
--- a list that ends with one item, divided before it
-halves : {A : Type 0} → (xs ys zs : List A) (z : A) → xs ++ ys ≡ zs ++ z ∷ [] → length xs ≡ length zs → (xs ≡ zs) × (ys ≡ z ∷ [])
-halves xs ys zs z e same = (
-  sym (take-append_seam xs ys) ∙ ap (take (length xs)) e ∙ ap (λ k. take k (zs ++ z ∷ [])) same ∙ take-append_seam zs (z ∷ []),
-  sym (drop-append_seam xs ys) ∙ ap (drop (length xs)) e ∙ ap (λ k. drop k (zs ++ z ∷ [])) same ∙ drop-append_seam zs (z ∷ []),
-)
-
-module _ {R W : Type 0} (made : Made W) where
-  -- digests of tails, and of one more, with what these lacked
-  pub next_with : (qs : List (Part R)) (ts : List Tail) (t : Tail) (hs : List Sha256) → ((ks : List Sha256) → AreTaken ts ks → AreNext qs ks) → t.hasher.now ≡ made.hasher → t.bytes.now ≡ made.late.items
-      → AreTaken (ts ++ t ∷ []) hs → AreNextWith qs made hs
-  next_with qs ts t hs next hasher bytes taken =
-      let r = last_taken ts t hs taken in
-      record {
-        first = r.first;
-        last = r.last;
-        is = r.is;
-        next = next r.first r.taken;
-        more = subst (λ h. HasMore h made.late.items r.last) hasher (subst (λ b. HasMore t.hasher.now b r.last) bytes r.more);
-      }
-
-  -- those of the first parts before those of the others
-  pub next_both_with : (qs rs : List (Part R)) (hs ks : List Sha256) → AreNext qs hs → AreNextWith rs made ks → AreNextWith (qs ++ rs) made (hs ++ ks)
-  next_both_with qs rs hs ks a k = record {
-    first = hs ++ k.first;
-    last = k.last;
-    is = ap (λ l. hs ++ l) k.is ∙ sym (append_assoc hs k.first (k.last ∷ []));
-    next = next_both qs rs hs k.first a k.next;
-    more = k.more;
-  }
-
-  pub next_length : (qs : List (Part R)) (hs : List Sha256) → AreNextWith qs made hs → length hs ≡ length qs + 1
-  next_length qs hs n =
-      let e = ap length n.is in
-      let l = length-append n.first (n.last ∷ []) in
-      omega (arith, e, l, next_count qs n.first n.next)
-
-  -- the digests of the parts stand in front of the last one
-  pub record Halves (qs : List (Part R)) (xs ys : List Sha256) : Type 0 where
-    pub next : AreNext qs xs
-    pub some : 0 < length ys
-    pub more : (d : Sha256) → HasMore made.hasher made.late.items (get_or ys 0 d)
-
-  pub next_halves : (qs : List (Part R)) (hs xs ys : List Sha256) → hs ≡ xs ++ ys → length xs ≡ length qs → AreNextWith qs made hs → Halves qs xs ys
-  next_halves qs hs xs ys e same n =
-      let h = halves xs ys n.first n.last (sym e ∙ n.is) (same ∙ sym (next_count qs n.first n.next)) in
-      record {
-        next = subst (AreNext qs) (sym h.0) n.next;
-        some = omega (arith, ap length h.1);
-        more = λ d. subst (λ l. HasMore made.hasher made.late.items (get_or l 0 d)) (sym h.1) n.more;
-      }
 
 taken_more : (ts : List Tail) (hs : List Sha256) (t : Tail) (h : Sha256) → AreTaken ts hs → HasMore t.hasher.now t.bytes.now h → AreTaken (ts ++ t ∷ []) (hs ++ h ∷ [])
 taken_more [] [] t h a b = (b, tt)

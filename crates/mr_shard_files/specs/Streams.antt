@@ -1,23 +1,23 @@
 -- Parts of shards that are read in pieces.
-use Rattle.std.specs.Prelude.{◌≡◌, ℕ, ◌+◌, ◌<◌, ◌≤◌, ◌&&◌, ◌||◌, ◌⊎◌, Bool, true, false, ⊤, List, [], ◌∷◌, ◌++◌, Option, Result, Ok, Err, Vec, drop, length, slice_index_or, string_bytes, take}
+use Rattle.std.specs.Prelude.{◌≡◌, ℕ, ◌+◌, ◌<◌, ◌≤◌, ◌&&◌, ◌||◌, ◌⊎◌, Bool, true, false, ⊤, List, [], ◌∷◌, ◌++◌, Option, Vec, drop, length, slice_index_or, string_bytes, take}
 use Rattle.std.specs.Global.{Global}
-use Rattle.std.specs.declared.alloc.AllocError.{AllocError}
 use Rattle.std.specs.Io.KnownBytes.{Consumes, IsAtEnd}
 use Rattle.sha2.specs.Hashers.{Holds256}
 use Rattle.mr_files.specs.Folders.{IsFolderOf}
 use Rattle.mr_files.specs.Holding.{Agrees, Faulty, Stored}
 use Rattle.mr_files.specs.Names.{name_of_part}
+use Rattle.mr_store.specs.Devices.{Seen}
 use Rattle.mr_jobs.specs.JobSpec.{JobSpec}
 use Rattle.mr_shards.specs.declared.cursor.Held.{Held}
 use Rattle.mr_shards.specs.declared.shift.ShardFiles.{ShardFiles}
 use Rattle.mr_shards.specs.declared.merger.MergeFault.{MergeFault}
-use Rattle.mr_shards.specs.declared.merger.MergeFault.TheVariants as merge
 use Rattle.mr_shards.specs.declared.merger.Window.{Window}
 use Rattle.mr_shards.specs.Rounds.{AreCounted, AreWindows, IsAfter, IsMerged, Merges, Reading, Standing, outputs_of}
 use Rattle.mr_shards.specs.Refused.{Blames}
 use Rattle.mr_shards.specs.Joined.{verdict_at}
 use Rattle.mr_shards.specs.Verdict.{Told}
 use Rattle.mr_shard_files.specs.Beside.{ReportsCause, no_note}
+use Rattle.mr_shard_files.specs.Made.{Gives, HasWritten}
 use Rattle.mr_shard_files.specs.Told.{told_of_merge}
 use Rattle.mr_shard_files.specs.declared.fault.ShardFault.{ShardFault}
 use Rattle.mr_shard_files.specs.declared.fault.ShardFault.TheVariants.{CannotRead, OtherPart, OutOfMemory}
@@ -26,7 +26,6 @@ use Rattle.mr_shard_files.specs.declared.partition.PartMerge.{PartMerge}
 use Rattle.mr_shard_files.specs.declared.stream.Part.{Part}
 use Rattle.mr_shard_files.specs.declared.tails.Tail.{Tail}
 use Rattle.sha2.specs.declared.Sha256.{Sha256}
-use Rattle.mr_shard_files.specs.declared.rounds.Beside.{Beside}
 use Rattle.mr_shard_files.specs.declared.rounds.Stop.{Stop}
 use Rattle.mr_shard_files.specs.declared.rounds.Stop.TheVariants as stop
 
@@ -173,14 +172,6 @@ AreNext [] [] = Unit {0}
 AreNext (q ∷ qs) (h ∷ hs) = HasMore q.hasher (drop q.digested q.held) h × AreNext qs hs
 AreNext _ _ = ⊥
 
--- those, and behind them one that the part of the result may have next
-pub record AreNextWith {R W : Type 0} (parts : List (Part R)) (made : Made W) (hashers : List Sha256) : Type 0 where
-  pub first : List Sha256
-  pub last : Sha256
-  pub is : hashers ≡ first ++ last ∷ []
-  pub next : AreNext parts first
-  pub more : HasMore made.hasher made.late.items last
-
 -- so many bytes are no more than are held
 abbrev pub AreHeld : {R : Type 0} → List ℕ → List (Part R) → Type 0
 AreHeld [] [] = Unit {0}
@@ -236,15 +227,23 @@ pub record MergesHeld {R : Type 0} (job : JobSpec) (parts : List (Part R)) (old 
   pub shown : AreWindowsOf parts windows
   pub merges : Merges job windows old new
 
--- windows on the parts are blamed, or memory is wanting
-abbrev pub IsBlamedOver : {R : Type 0} → JobSpec → List (Part R) → Standing → MergeFault → Type 0
-IsBlamedOver job parts m e = (e ≡ merge.OutOfMemory)
-    ⊎ ((ws : List Window) × AreWindowsOf parts ws × ((rs : List Reading) (text : List ℕ) → IsAfter job rs text m → AreWindows rs ws → Blames job (outputs_of rs) e))
+-- the windows are blamed, or memory is wanting
+abbrev pub Refuses : JobSpec → List Window → Standing → MergeFault → Type 0
+Refuses job ws m e = (rs : List Reading) (text : List ℕ) → IsAfter job rs text m → AreWindows rs ws → Blames job (outputs_of rs) e
 
--- windows on the parts are not merged
-abbrev pub IsStoppedAt : {R : Type 0} → JobSpec → List (Part R) → Standing → Stop → Type 0
-IsStoppedAt job parts m (stop.Part fault) = fault ≡ OutOfMemory
-IsStoppedAt job parts m (stop.Merge fault) = IsBlamedOver job parts m fault
+-- windows on the parts are blamed
+abbrev pub IsBlamedOver : {R : Type 0} → JobSpec → List (Part R) → Standing → MergeFault → Type 0
+IsBlamedOver job parts m e = (ws : List Window) × AreWindowsOf parts ws × Refuses job ws m e
+
+-- windows are not merged beside a write: they are blamed, or that failed
+abbrev pub IsNotBeside : JobSpec → List Window → Standing → (ShardFault → Type 0) → Stop → Type 0
+IsNotBeside job ws m unwritten (stop.Part fault) = unwritten fault
+IsNotBeside job ws m unwritten (stop.Merge fault) = Refuses job ws m fault
+
+-- so with windows on the parts
+abbrev pub IsStoppedAt : {R : Type 0} → JobSpec → List (Part R) → (ShardFault → Type 0) → Standing → Stop → Type 0
+IsStoppedAt job parts unwritten m (stop.Part fault) = unwritten fault
+IsStoppedAt job parts unwritten m (stop.Merge fault) = IsBlamedOver job parts m fault
 
 -- there is no next round: a part can't be read, or what was merged is not written, or windows on the parts are not merged
 abbrev pub IsRoundFault : {R : Type 0} → (R → Option (List ℕ)) → (R → Type 0) → (ShardFault → Type 0) → JobSpec → List (Part R) → List (Part R) → Standing → Stop → Type 0
@@ -252,18 +251,12 @@ IsRoundFault remaining can_fail unwritten job old new m (stop.Part fault) =
     (fault ≡ OutOfMemory) ⊎ (OneIs (λ _ q. ReportsUnread (can_fail q.reader) (string_bytes q.name) fault) old ⊎ unwritten fault)
 IsRoundFault remaining can_fail unwritten job old new m (stop.Merge fault) = AllAre (λ _ o n. Moves remaining can_fail [] o n) old old new × IsBlamedOver job new m fault
 
--- a round is not had beside digests: it was not merged, or memory is wanting
-abbrev pub IsNotBeside : Result Standing MergeFault → Stop → Type 0
-IsNotBeside merged e = (e ≡ stop.Part OutOfMemory) ⊎ ((fault : MergeFault) × (merged ≡ Err fault) × (e ≡ stop.Merge fault))
-
--- the first digests stand before those that were taken beside the round
-pub record AreAllBeside (first : Result (Vec Sha256 Global) AllocError) (beside : Result Beside Stop) (all : Beside) : Type 0 where
-  pub front : Vec Sha256 Global
-  pub back : Beside
-  pub first_is : first ≡ Ok front
-  pub back_is : beside ≡ Ok back
-  pub merger : all.merger ≡ back.merger
-  pub digests : all.digests.items ≡ front.items ++ back.digests.items
+-- windows on the parts were merged, and the part of the result has the text too
+pub record TakesRound {R W : Type 0} (seen : W → Seen) (job : JobSpec) (parts : List (Part R)) (old new : Standing) (before after : Made W) : Type 0 where
+  pub merged : Standing
+  pub merges : MergesHeld job parts old merged
+  pub gives : Gives merged new
+  pub written : (bytes : List ℕ) → HasWritten seen bytes before → HasWritten seen (bytes ++ merged.text) after
 
 -- parts are not merged as they are read, or what they are merged to is not written
 abbrev pub IsStopped : {R : Type 0} → (R → Option (List ℕ)) → (R → Type 0) → (ShardFault → Type 0) → JobSpec → List ShardFiles → List (Part R) → List (Part R) → Stop → Type 0

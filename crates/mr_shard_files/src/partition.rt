@@ -9,9 +9,9 @@ ghost use Rattle.mr_shards.specs.Joined.{inputs_of};
 ghost use Rattle.mr_shards.specs.Truth.{note_for, note_for as note_telling, notes_for};
 ghost use Rattle.mr_shard_files.specs.Beside.{files_told};
 ghost use Rattle.mr_shard_files.specs.Faults.{IsPartsFault};
-ghost use Rattle.mr_shard_files.specs.Made.{HasWritten, ReportsUnwritten};
+ghost use Rattle.mr_shard_files.specs.Made.{CatchesUp, Gives, HasWritten, ReportsUnwritten};
 ghost use Rattle.mr_shard_files.specs.Merging.{AreAllWritten};
-ghost use Rattle.mr_shard_files.specs.Streams.{HasMore, IsJoinedTo, IsNotJoined};
+ghost use Rattle.mr_shard_files.specs.Streams.{IsJoinedTo, IsNotJoined};
 ghost use Rattle.mr_input.specs.Files.{contents};
 
 use crate::fault::ShardFault;
@@ -20,7 +20,6 @@ use crate::pairs::{add_pairs, no_pairs, test_totals};
 use crate::rounds::merge_partition;
 use crate::sharing::put_verdict;
 use crate::stream::Part;
-use crate::tails::Tail;
 use mr_files::{Store, WriteFault, part_file, part_name};
 use mr_jobs::{Job, Request};
 use mr_shards::{FileNote, Merger, ShardFiles, Verdict, note_for};
@@ -76,7 +75,7 @@ fn part_filled<R: CountedRead + Drop, W: CountedWrite + Drop, T: Threads>(
     requires fresh { HasWritten W.seen [] made.old }
     ensures ok { IfOk result (λ r. (text : List ℕ)
         × IsJoinedTo R.remaining R.can_fail merge.now parts.old text r.1.held
-        × HasWritten W.seen text made.new × (r.0 ≡ note_for (part_file merge.now.partition) text)) }
+        × Agrees (W.seen made.new.writer).contents text × (r.0 ≡ note_for (part_file merge.now.partition) text)) }
     ensures handed { OnOk result ((W.seen made.new.writer).handed_on ≡ (W.seen made.new.writer).contents) }
     ensures err { IfErr result (λ e. IsNotJoined R.remaining R.can_fail merge.now parts.old e
         ⊎ ReportsUnwritten (W.can_fail made.old.writer) (string_bytes made.old.name) e) }
@@ -163,15 +162,15 @@ pub(crate) fn partitions_written<S: Store, T: Threads>(
     Ok(notes)
 }
 
-/// A part of the result, with the length and digest of what was written. The digest lacks the
-/// `late` bytes, so that another thread can add them.
+/// A part of the result. Its late bytes aren't written yet, so that this can go beside a merge.
 #[derive(Drop)]
 pub(crate) struct Made<W: CountedWrite + Drop> {
     pub name: String,
     pub writer: W,
+    /// The digest and the length of what was written.
     hasher: Sha256,
-    late: Vec<u8>,
     length: u64,
+    late: Vec<u8>,
 }
 
 /// The fault of a failed write.
@@ -197,61 +196,59 @@ impl<W: CountedWrite + Drop> Made<W> {
             name,
             writer,
             hasher: Sha256::new(),
-            late: Vec::new(alloc),
             length: 0,
+            late: Vec::new(alloc),
         }
     }
 
-    pub fn tail(&self) -> Tail<'_>
-        ensures hasher { result.hasher.now ≡ self.entry.now.hasher }
-        ensures bytes { result.bytes.now ≡ self.entry.now.late.items }
+    /// How many bytes are late.
+    pub fn late(&self) -> usize
+        ensures { result ≡ length self.now.late.items }
     {
-        Tail {
-            hasher: &self.hasher,
-            bytes: self.late.as_slice(),
-        }
+        self.late.len()
     }
 
-    /// Takes a digest that has the late bytes too.
-    pub fn keep_digest(&mut self, hasher: Sha256)
-        requires { HasMore self.old.hasher self.old.late.items hasher }
+    /// Takes what the merger's last round merged. Before, no byte may be late.
+    pub fn take_text(&mut self, merger: &mut Merger)
+        requires { self.old.late.items ≡ [] }
         ensures written { (bytes : List ℕ) → HasWritten W.seen bytes self.old
-            → HasWritten W.seen bytes self.new }
+            → HasWritten W.seen (bytes ++ merger.old.text) self.new }
+        ensures merger { Gives merger.old merger.new }
         ensures writer { self.new.writer ≡ self.old.writer }
         ensures name { self.new.name ≡ self.old.name }
     {
-        self.hasher = hasher;
-        self.late.clear();
+        merger.swap_text(&mut self.late);
     }
 
-    /// Appends a piece.
-    pub fn put(&mut self, alloc: Global, piece: &[u8]) -> Result<(), ShardFault>
-        ensures ok { OnOk result ((bytes : List ℕ) → HasWritten W.seen bytes self.old
-            → HasWritten W.seen (bytes ++ piece.now) self.new) }
+    /// Writes what is late.
+    pub fn catch_up(&mut self, alloc: Global) -> Result<(), ShardFault>
+        ensures ok { OnOk result (CatchesUp W.seen self.old self.new) }
         ensures err { IfErr result (ReportsUnwritten (W.can_fail self.old.writer) (string_bytes self.old.name)) }
         ensures later { W.can_fail self.new.writer → W.can_fail self.old.writer }
         ensures name { self.new.name ≡ self.old.name }
     {
-        let Some(length) = self.length.checked_add(piece.len() as u64) else {
+        let Some(length) = self.length.checked_add(self.late.len() as u64) else {
             // No machine has room for more bytes than 64 bits count.
             return Err(ShardFault::OutOfMemory);
         };
-        if write_all(&mut self.writer, piece).is_err() {
+        if write_all(&mut self.writer, self.late.as_slice()).is_err() {
             let lacked = self.writer.is_out_of_memory();
             return Err(unwritten(alloc, self.name.as_str(), lacked));
         }
-        self.late.extend_from_slice(piece)?;
+        self.hasher.update(self.late.as_slice());
         self.length = length;
+        self.late.clear();
         Ok(())
     }
 
+    /// Writes what is late, and flushes.
     pub fn flush(&mut self, alloc: Global) -> Result<(), ShardFault>
         ensures handed { OnOk result ((W.seen self.new.writer).handed_on ≡ (W.seen self.new.writer).contents) }
-        ensures ok { OnOk result ((bytes : List ℕ) → HasWritten W.seen bytes self.old
-            → HasWritten W.seen bytes self.new) }
+        ensures ok { OnOk result (CatchesUp W.seen self.old self.new) }
         ensures err { IfErr result (ReportsUnwritten (W.can_fail self.old.writer) (string_bytes self.old.name)) }
         ensures name { self.new.name ≡ self.old.name }
     {
+        self.catch_up(alloc)?;
         if self.writer.flush().is_err() {
             let lacked = self.writer.is_out_of_memory();
             return Err(unwritten(alloc, self.name.as_str(), lacked));
@@ -261,16 +258,15 @@ impl<W: CountedWrite + Drop> Made<W> {
 
     /// The note of what was written, under the name of that partition's part.
     pub fn note(&self, alloc: Global, partition: usize) -> Result<FileNote, AllocError>
+        requires { self.now.late.items ≡ [] }
         ensures { IfOk result (λ n. (bytes : List ℕ) → HasWritten W.seen bytes self.now
             → n ≡ note_for (file_of_part partition) bytes) }
     {
         let file = part_file(alloc, partition)?;
-        let mut hasher = self.hasher.clone()?;
-        hasher.update(self.late.as_slice());
         Ok(FileNote {
             name: Vec::from_slice(alloc, file.as_bytes())?,
             length: self.length,
-            digest: hasher.finalize(),
+            digest: self.hasher.clone()?.finalize(),
         })
     }
 }

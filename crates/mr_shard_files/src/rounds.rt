@@ -1,28 +1,24 @@
 //! Merges parts while it reads them, in rounds.
 //!
-//! A round fills a window of each part, merges what it can of them (`mr_shards::Merger`), writes
-//! that, and passes what it took. Meanwhile up to two threads digest what was read, and what the
-//! round before wrote: SHA-256 takes as long as the merge. Cost: each byte is read, digested and
-//! merged once, and what is written is copied once; of a line longer than a window only its end is
+//! A round fills a window of each part, merges what it can of them (`mr_shards::Merger`), and passes
+//! what it took. Meanwhile up to two threads write what the round before merged, and digest that and
+//! what was read: SHA-256 takes as long as the merge. Cost: each byte is read, digested and merged
+//! once, and written once from where it was merged; of a line longer than a window only its end is
 //! looked for again.
-ghost use Rattle.std.specs.Prelude.{◌≡◌, ◌⊎◌, [], ◌++◌, ℕ, List, Err, Ok, IfErr, IfOk, OnOk};
-ghost use Rattle.std.specs.Prelude.{length, string_bytes};
-ghost use Rattle.mr_shard_files.specs.Streams.{AreBlamed, AreMergedTo, AreNextWith, IsJoinedTo};
-ghost use Rattle.mr_shard_files.specs.Streams.{AreTaken, IsBlamedOver, IsNotJoined, IsStopped};
-ghost use Rattle.mr_shard_files.specs.Streams.{IsStoppedAt};
-ghost use Rattle.mr_shard_files.specs.Streams.{AllAre, AreAllBeside, IsNotBeside, IsRoundFault};
-ghost use Rattle.mr_shard_files.specs.Streams.{MergesHeld, Moves};
-ghost use Rattle.mr_shard_files.specs.declared.rounds.Stop.TheVariants.{Part as told_part};
-ghost use Rattle.mr_shard_files.specs.declared.fault.ShardFault.TheVariants.{OutOfMemory as told_memory};
-ghost use Rattle.mr_shard_files.specs.Made.{HasWritten, ReportsUnwritten};
+ghost use Rattle.std.specs.Prelude.{◌≡◌, ◌⊎◌, [], ◌++◌, ℕ, List, IfErr, IfOk, OnOk, length, string_bytes};
+ghost use Rattle.mr_shards.specs.Rounds.{Merges};
+ghost use Rattle.mr_shard_files.specs.Streams.{AllAre, AreBlamed, AreMergedTo, AreNext, AreTaken};
+ghost use Rattle.mr_shard_files.specs.Streams.{IsJoinedTo, IsNotBeside, IsNotJoined, IsRoundFault};
+ghost use Rattle.mr_shard_files.specs.Streams.{IsStopped, IsStoppedAt, MergesHeld, Moves, Refuses, TakesRound};
+ghost use Rattle.mr_shard_files.specs.Made.{CatchesUp, HasWritten, ReportsUnwritten};
 
 use crate::fault::{ShardFault, of_merge};
 use crate::partition::{Made, PartMerge};
 use crate::stream::Part;
 use crate::streams::{are_done, fill_all, pass_all, settle_all, share_of, windows_of};
-use crate::tails::{all_taken, keep_all, keep_tail, middle_of, tails_of, taken_of_both};
+use crate::tails::{all_taken, keep_all, middle_of, tails_of, taken_of_both};
 use mr_jobs::Job;
-use mr_shards::{MergeFault, Merger, ShardFiles};
+use mr_shards::{MergeFault, Merger, ShardFiles, Window};
 use mr_store::{CountedRead, CountedWrite};
 use sha2::Sha256;
 use std::alloc::{AllocError, Global};
@@ -71,153 +67,122 @@ impl From<MergeFault> for Stop {
     }
 }
 
-/// Merges what is held, as far as possible.
-fn merge_held<R: CountedRead + Drop>(
-    alloc: Global,
-    job: &Job,
-    parts: &[Part<R>],
-    merger: Merger,
-) -> Result<Merger, MergeFault>
-    requires { length parts.now ≡ length merger.held }
-    ensures kept { IfOk result (λ m. length m.held ≡ length merger.held) }
-    ensures ok { IfOk result (MergesHeld job.now parts.now merger) }
-    ensures err { IfErr result (IsBlamedOver job.now parts.now merger) }
-{
-    let windows = windows_of(alloc, parts)?;
-    merger.merge_round(alloc, job, windows.as_slice())
-}
-
-/// A merger behind a round, and digests taken meanwhile.
-#[derive(Drop)]
-struct Beside {
-    merger: Merger,
-    digests: Vec<Sha256>,
-}
-
-fn with_digests(
-    digests: Result<Vec<Sha256>, AllocError>,
-    merged: Result<Merger, MergeFault>,
-) -> Result<Beside, Stop>
-    ensures merger { IfOk result (λ b. merged ≡ Ok b.merger) }
-    ensures digests { IfOk result (λ b. digests ≡ Ok b.digests) }
-    ensures err { IfErr result (IsNotBeside merged) }
-{
-    let merger = merged?;
-    Ok(Beside {
-        merger,
-        digests: digests?,
-    })
-}
-
-fn all_beside(
-    first: Result<Vec<Sha256>, AllocError>,
-    beside: Result<Beside, Stop>,
-) -> Result<Beside, Stop>
-    ensures ok { IfOk result (AreAllBeside first beside) }
-    ensures err { IfErr result (λ e. (e ≡ told_part told_memory) ⊎ (beside ≡ Err e)) }
-{
-    let beside = beside?;
-    let digests = taken_of_both(first?, beside.digests)?;
-    Ok(Beside {
-        merger: beside.merger,
-        digests,
-    })
-}
-
-/// Like `merge_held`, while another thread, if there can be one, digests for some of the parts, and
-/// for what was written.
+/// Merges what it can of the windows in another thread, if there can be one. Meanwhile writes what
+/// the round before merged, and digests that and what some of the parts hold.
 fn merge_beside_one<R: CountedRead + Drop, W: CountedWrite + Drop, T: Threads>(
     rt: &T,
     alloc: Global,
     job: &Job,
-    parts: &[Part<R>],
+    windows: &[Window<'_>],
     some: &[Part<R>],
-    made: &Made<W>,
-    merger: Merger,
-) -> Result<Beside, Stop>
-    requires { length parts.now ≡ length merger.held }
-    ensures kept { IfOk result (λ b. length b.merger.held ≡ length merger.held) }
-    ensures ok { IfOk result (λ b. MergesHeld job.now parts.now merger b.merger) }
-    ensures digests { IfOk result (λ b. AreNextWith some.now made.now b.digests.items) }
-    ensures err { IfErr result (λ e. IsStoppedAt job.now parts.now merger e) }
+    made: &mut Made<W>,
+    merger: &mut Merger,
+) -> Result<Vec<Sha256>, Stop>
+    requires { length windows.now ≡ length merger.old.held }
+    ensures kept { OnOk result (length merger.new.held ≡ length merger.old.held) }
+    ensures ok { OnOk result (Merges job.now windows.now merger.old merger.new) }
+    ensures digests { IfOk result (λ hs. AreNext some.now hs.items) }
+    ensures caught { OnOk result (CatchesUp W.seen made.old made.new) }
+    ensures err { IfErr result (IsNotBeside job.now windows.now merger.old
+        (ReportsUnwritten (W.can_fail made.old.writer) (string_bytes made.old.name))) }
+    ensures later { W.can_fail made.new.writer → W.can_fail made.old.writer }
+    ensures name { made.new.name ≡ made.old.name }
 {
-    let mut tails = tails_of(alloc, some)?;
-    keep_tail(&mut tails, made.tail())?;
+    let tails = tails_of(alloc, some)?;
     let lacking = tails.as_slice();
-    let digesting = move || -> Result<Vec<Sha256>, AllocError>
-        ensures { IfOk result (λ hs. AreTaken lacking.entry.now hs.items) }
-    { all_taken(alloc, lacking) };
-    let merging = move || -> Result<Merger, MergeFault>
-        requires { length parts.now ≡ length merger.held }
-        ensures kept { IfOk result (λ m. length m.held ≡ length merger.held) }
-        ensures ok { IfOk result (MergesHeld job.entry.now parts.entry.now merger) }
-        ensures err { IfErr result (IsBlamedOver job.entry.now parts.entry.now merger) }
-    { merge_held(alloc, job, parts, merger) };
-    let (digests, merged) = thread::join(rt, digesting, merging);
-    with_digests(digests, merged)
+    let mut merging = || -> Result<(), MergeFault>
+        requires { length windows.now ≡ length merger.now.held }
+        ensures kept { OnOk result (length merger.exit.now.held ≡ length merger.entry.now.held) }
+        ensures ok { OnOk result (Merges job.entry.now windows.entry.now merger.entry.now merger.exit.now) }
+        ensures err { IfErr result (Refuses job.entry.now windows.entry.now merger.entry.now) }
+    { merger.merge_round(alloc, job, windows) };
+    let mut digesting = || -> Result<Vec<Sha256>, ShardFault>
+        ensures taken { IfOk result (λ hs. AreTaken lacking.entry.now hs.items) }
+        ensures caught { OnOk result (CatchesUp W.seen made.entry.now made.exit.now) }
+        ensures err { IfErr result (ReportsUnwritten (W.can_fail made.entry.now.writer)
+            (string_bytes made.entry.now.name)) }
+        ensures later { W.can_fail made.exit.now.writer → W.can_fail made.entry.now.writer }
+        ensures name { made.exit.now.name ≡ made.entry.now.name }
+    {
+        made.catch_up(alloc)?;
+        Ok(all_taken(alloc, lacking)?)
+    };
+    let (merged, digests) = thread::join_mut(rt, &mut merging, &mut digesting);
+    let digests = digests?;
+    merged?;
+    Ok(digests)
 }
 
-/// Like `merge_held`, while up to two threads digest for the parts and for what was written, about
-/// half of the bytes each: SHA-256 takes as long as the merge.
+/// Merges what it can of what the parts hold. Meanwhile up to two threads write what the round
+/// before merged, and digest that and what the parts hold, about half of the bytes each: SHA-256
+/// takes as long as the merge.
 fn merge_beside<R: CountedRead + Drop, W: CountedWrite + Drop, T: Threads>(
     rt: &T,
     alloc: Global,
     job: &Job,
     parts: &[Part<R>],
-    made: &Made<W>,
-    merger: Merger,
-) -> Result<Beside, Stop>
-    requires { length parts.now ≡ length merger.held }
-    ensures kept { IfOk result (λ b. length b.merger.held ≡ length merger.held) }
-    ensures ok { IfOk result (λ b. MergesHeld job.now parts.now merger b.merger) }
-    ensures digests { IfOk result (λ b. AreNextWith parts.now made.now b.digests.items) }
-    ensures err { IfErr result (λ e. IsStoppedAt job.now parts.now merger e) }
+    made: &mut Made<W>,
+    merger: &mut Merger,
+) -> Result<Vec<Sha256>, Stop>
+    requires { length parts.now ≡ length merger.old.held }
+    ensures kept { OnOk result (length merger.new.held ≡ length merger.old.held) }
+    ensures ok { OnOk result (MergesHeld job.now parts.now merger.old merger.new) }
+    ensures digests { IfOk result (λ hs. AreNext parts.now hs.items) }
+    ensures caught { OnOk result (CatchesUp W.seen made.old made.new) }
+    ensures err { IfErr result (IsStoppedAt job.now parts.now
+        (ReportsUnwritten (W.can_fail made.old.writer) (string_bytes made.old.name)) merger.old) }
+    ensures later { W.can_fail made.new.writer → W.can_fail made.old.writer }
+    ensures name { made.new.name ≡ made.old.name }
 {
-    let (front, back) = parts.split_at(middle_of(parts, made.tail().bytes.len()));
+    let all = windows_of(alloc, parts)?;
+    let windows = all.as_slice();
+    let (front, back) = parts.split_at(middle_of(parts, made.late()));
     let tails = tails_of(alloc, front)?;
     let lacking = tails.as_slice();
-    let digesting = move || -> Result<Vec<Sha256>, AllocError>
+    let mut digesting = || -> Result<Vec<Sha256>, AllocError>
         ensures { IfOk result (λ hs. AreTaken lacking.entry.now hs.items) }
     { all_taken(alloc, lacking) };
-    let stepping = move || -> Result<Beside, Stop>
-        requires { length parts.now ≡ length merger.held }
-        ensures kept { IfOk result (λ b. length b.merger.held ≡ length merger.held) }
-        ensures ok { IfOk result (λ b. MergesHeld job.entry.now parts.entry.now merger b.merger) }
-        ensures digests { IfOk result (λ b. AreNextWith back.entry.now made.entry.now b.digests.items) }
-        ensures err { IfErr result (λ e. IsStoppedAt job.entry.now parts.entry.now merger e) }
-    { merge_beside_one(rt, alloc, job, parts, back, made, merger) };
-    let (first, beside) = thread::join(rt, digesting, stepping);
-    all_beside(first, beside)
+    let mut stepping = || -> Result<Vec<Sha256>, Stop>
+        requires { length windows.now ≡ length merger.now.held }
+        ensures kept { OnOk result (length merger.exit.now.held ≡ length merger.entry.now.held) }
+        ensures ok { OnOk result (Merges job.entry.now windows.entry.now merger.entry.now merger.exit.now) }
+        ensures digests { IfOk result (λ hs. AreNext back.entry.now hs.items) }
+        ensures caught { OnOk result (CatchesUp W.seen made.entry.now made.exit.now) }
+        ensures err { IfErr result (IsNotBeside job.entry.now windows.entry.now merger.entry.now
+            (ReportsUnwritten (W.can_fail made.entry.now.writer) (string_bytes made.entry.now.name))) }
+        ensures later { W.can_fail made.exit.now.writer → W.can_fail made.entry.now.writer }
+        ensures name { made.exit.now.name ≡ made.entry.now.name }
+    { merge_beside_one(rt, alloc, job, windows, back, made, merger) };
+    let (first, rest) = thread::join_mut(rt, &mut digesting, &mut stepping);
+    let rest = rest?;
+    Ok(taken_of_both(first?, rest)?)
 }
 
-/// Reads some of each part, and merges and writes what it can of what is held.
+/// Reads some of each part, and merges what it can of what is held. Writes what the round before
+/// merged, and takes over what this one did.
 fn merge_round<R: CountedRead + Drop, W: CountedWrite + Drop, T: Threads>(
     rt: &T,
     alloc: Global,
     job: &Job,
     parts: &mut [Part<R>],
-    last: Merger,
     made: &mut Made<W>,
-) -> Result<Merger, Stop>
-    requires { length parts.old ≡ length last.held }
-    ensures kept { IfOk result (λ m. length m.held ≡ length last.held) }
+    merger: &mut Merger,
+) -> Result<(), Stop>
+    requires { length parts.old ≡ length merger.old.held }
+    ensures kept { OnOk result (length merger.new.held ≡ length merger.old.held) }
     ensures read { OnOk result (AllAre (λ _ o n. Moves R.remaining R.can_fail [] o n) parts.old parts.old parts.new) }
-    ensures ok { IfOk result (λ m. MergesHeld job.now parts.new last m) }
-    ensures written { IfOk result (λ m. (bytes : List ℕ) → HasWritten W.seen bytes made.old
-        → HasWritten W.seen (bytes ++ m.text) made.new) }
+    ensures ok { OnOk result (TakesRound W.seen job.now parts.new merger.old merger.new made.old made.new) }
     ensures err { IfErr result (IsRoundFault R.remaining R.can_fail
         (ReportsUnwritten (W.can_fail made.old.writer) (string_bytes made.old.name))
-        job.now parts.old parts.new last) }
+        job.now parts.old parts.new merger.old) }
     ensures later { W.can_fail made.new.writer → W.can_fail made.old.writer }
     ensures name { made.new.name ≡ made.old.name }
 {
     fill_all(alloc, parts, WINDOW.max(share_of(parts)))?;
-    let Beside { merger, digests } = merge_beside(rt, alloc, job, parts, made, last)?;
-    let (of_parts, of_made) = digests.as_slice().split_at(parts.len());
-    keep_all(parts, of_parts)?;
-    made.keep_digest(of_made[0].clone()?);
-    made.put(alloc, merger.text())?;
-    Ok(merger)
+    let digests = merge_beside(rt, alloc, job, parts, made, merger)?;
+    keep_all(parts, digests.as_slice())?;
+    made.take_text(merger);
+    Ok(())
 }
 
 /// Merges the parts in rounds, and returns the merger behind the last one.
@@ -242,7 +207,7 @@ pub(crate) fn merge_rounds<R: CountedRead + Drop, W: CountedWrite + Drop, T: Thr
 {
     let mut merger = Merger::new(alloc, files)?;
     for _ in 0..u64::MAX {
-        merger = merge_round(rt, alloc, job, parts, merger, made)?;
+        merge_round(rt, alloc, job, parts, made, &mut merger)?;
         if are_done(parts) {
             return Ok(merger);
         }

@@ -1,4 +1,4 @@
-//! Takes digests apart from what they are of: parts that are read, and the one that is written.
+//! Takes digests of parts apart from the parts.
 ghost use Rattle.std.specs.Prelude.{◌≡◌, ◌≤◌, List, [], ◌∷◌, ◌++◌, drop, length, IfOk, OnOk};
 ghost use Rattle.sha2.specs.declared.Sha256.{Sha256 as Digested};
 ghost use Rattle.mr_shard_files.specs.Streams.{AllAre, AreNext, AreTailsOf, AreTaken, HasMore};
@@ -26,7 +26,7 @@ fn tail_of<'a, R: CountedRead + Drop>(part: &'a Part<R>) -> Tail<'a>
     }
 }
 
-pub(crate) fn keep_tail<'a>(tails: &mut Vec<Tail<'a>>, tail: Tail<'a>) -> Result<(), AllocError>
+fn keep_tail<'a>(tails: &mut Vec<Tail<'a>>, tail: Tail<'a>) -> Result<(), AllocError>
     ensures { OnOk result (tails.new.items ≡ tails.old.items ++ tail.entry ∷ []) }
 {
     tails.push(tail).map_err(AllocError::from)?;

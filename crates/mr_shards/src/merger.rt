@@ -34,6 +34,7 @@ use crate::waiting::Waiting;
 use mr_jobs::Job;
 use std::alloc::{AllocError, Global};
 use std::marker::Model;
+use std::mem;
 use thiserror::Error;
 
 /// What was read of an output and isn't merged yet. `is_last` if the output ends with it.
@@ -90,6 +91,16 @@ impl Merger {
         self.text.as_slice()
     }
 
+    /// Exchanges that text for memory that the next round may use.
+    pub fn swap_text(&mut self, memory: &mut Vec<u8>)
+        ensures text { memory.new.items ≡ self.old.text }
+        ensures held { self.new.held ≡ self.old.held }
+        ensures waiting { self.new.waiting ≡ self.old.waiting }
+        ensures cuts { self.new.cuts ≡ self.old.cuts }
+    {
+        mem::swap(&mut self.text, memory);
+    }
+
     /// How many bytes the last round took of each window.
     pub fn cuts(&self) -> &[usize]
         ensures { result.now ≡ self.now.cuts }
@@ -114,44 +125,30 @@ impl Merger {
     /// their number in the whole output. Nothing is said of the text unless the job is that of all
     /// rounds.
     pub fn merge_round(
-        self,
+        &mut self,
         alloc: Global,
         job: &Job,
         windows: &[Window<'_>],
-    ) -> Result<Merger, MergeFault>
-        requires { length windows.now ≡ length self.held }
-        ensures shards { IfOk result (λ m. length m.held ≡ length self.held) }
-        ensures goes { IfOk result (λ m. GoesOn windows.now m.cuts) }
-        ensures ok { IfOk result (Merges job.now windows.now self) }
-        ensures err { IfErr result (λ e. (rs : List Reading) (text : List ℕ) → IsAfter job.now rs text self
+    ) -> Result<(), MergeFault>
+        requires { length windows.now ≡ length self.old.held }
+        ensures shards { OnOk result (length self.new.held ≡ length self.old.held) }
+        ensures goes { OnOk result (GoesOn windows.now self.new.cuts) }
+        ensures ok { OnOk result (Merges job.now windows.now self.old self.new) }
+        ensures err { IfErr result (λ e. (rs : List Reading) (text : List ℕ) → IsAfter job.now rs text self.old
             → AreWindows rs windows.now → Blames job.now (outputs_of rs) e) }
     {
-        let Merger {
-            held,
-            mut waiting,
-            mut text,
-            ..
-        } = self;
-        text.clear();
-        let Some(mut cursors) = open_all(alloc, job, held.as_slice(), windows)? else {
-            let cuts = no_cuts(alloc, windows)?;
-            return Ok(Merger {
-                held,
-                waiting,
-                text,
-                cuts,
-            });
+        self.text.clear();
+        let Some(mut cursors) = open_all(alloc, job, self.held.as_slice(), windows)? else {
+            self.cuts = no_cuts(alloc, windows)?;
+            return Ok(());
         };
-        merge_lines(job, &mut cursors, &mut waiting, &mut text)?;
+        merge_lines(job, &mut cursors, &mut self.waiting, &mut self.text)?;
         if are_ended(cursors.as_slice()) {
-            waiting.put(job, &mut text)?;
+            self.waiting.put(job, &mut self.text)?;
         }
-        Ok(Merger {
-            held: all_held(alloc, cursors.as_slice())?,
-            waiting,
-            text,
-            cuts: cuts_of(alloc, windows, cursors.as_slice())?,
-        })
+        self.held = all_held(alloc, cursors.as_slice())?;
+        self.cuts = cuts_of(alloc, windows, cursors.as_slice())?;
+        Ok(())
     }
 }
 
@@ -407,7 +404,7 @@ pub fn merge_parts(
 {
     let files = files_in(alloc, outputs)?;
     let windows = whole_windows(alloc, outputs)?;
-    let merger = Merger::new(alloc, files.as_slice())?;
-    let merged = merger.merge_round(alloc, job, windows.as_slice())?;
-    Ok(Vec::from_slice(alloc, merged.text())?)
+    let mut merger = Merger::new(alloc, files.as_slice())?;
+    merger.merge_round(alloc, job, windows.as_slice())?;
+    Ok(Vec::from_slice(alloc, merger.text())?)
 }

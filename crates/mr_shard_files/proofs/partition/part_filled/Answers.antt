@@ -1,6 +1,6 @@
 use Rattle.std.proofs.Common.{ap, inr, string_bytes}
 use Rattle.std.proofs.lemmas.Result.{err_from_is_err_and}
-use Rattle.mr_shard_files.proofs.MadeLemmas.{unwritten_back}
+use Rattle.mr_shard_files.proofs.MadeLemmas.{all_written, unwritten_back}
 use Rattle.mr_shard_files.proofs.partition.part_filled.Goals as goal
 
 pub returns-in_err-merger-clause-err : goal.returns-in_err-merger-clause-err
@@ -20,8 +20,12 @@ returns-in_err-note-clause-err g c =
     let p = err_from_is_err_and c.from_residual-in_err-note.result c.from_residual-in_err-note.ensures.1 in
     rw p.1 (rw p.2 (inr tt))
 
+pub note-requires : goal.note-requires
+note-requires g c = c.in_ok-flush.ensures.ok.none_late
+
 pub returns-clause-ok : goal.returns-clause-ok
 returns-clause-ok g c =
     let (text, joined, written) = c.in_ok-merger.ensures.ok in
-    let flushed = c.in_ok-flush.ensures.ok text written in
-    (text, joined, flushed, c.in_ok-note.ensures text flushed)
+    let flushed = c.in_ok-flush.ensures.ok in
+    let has = flushed.written text written in
+    (text, joined, all_written g.W.CountedWrite.seen text c.flush.new.self has flushed.none_late, c.in_ok-note.ensures text has)

@@ -31,7 +31,7 @@ returns-clause-ok g c =
     let name = name_of_part c.args.dir.now c.args.merge.now.partition in
     let same = c.as_str.ensures.value ∙ ap string_bytes c.part_filled-answer.ensures.name ∙ c.in_ok-made.ensures.name in
     given_with c.part_filled-answer.result _ _ _
-    (λ handed n (text, joined, written, told). (text, joined, subst (λ (l : List ℕ). g.S.Store.holds c.close.new.self l text) same (c.in_ok-close.ensures.stands handed text written.contents), told))
+    (λ handed n (text, joined, written, told). (text, joined, subst (λ (l : List ℕ). g.S.Store.holds c.close.new.self l text) same (c.in_ok-close.ensures.stands handed text written), told))
     c.part_filled-answer.ensures.handed c.part_filled-answer.ensures.ok
 
 pub returns-in_err-close-clause-others : goal.returns-in_err-close-clause-others

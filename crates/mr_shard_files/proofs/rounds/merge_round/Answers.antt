@@ -1,10 +1,9 @@
-use Rattle.std.proofs.Common.{◌≡◌, ◌++◌, ◌∙◌, List, [], ℕ, ap, arith, inl, inr, length, refl, string_bytes, subst, sym}
+use Rattle.std.proofs.Common.{◌∙◌, [], ap, inl, inr, length, refl, string_bytes, subst, sym}
 use Rattle.std.proofs.lemmas.Result.{err_from_is_err_and}
-use Rattle.mr_shard_files.specs.Made.{HasWritten, ReportsUnwritten}
-use Rattle.mr_shard_files.specs.Streams.{HasMore, Moves}
+use Rattle.mr_shard_files.specs.Made.{ReportsUnwritten}
+use Rattle.mr_shard_files.specs.Streams.{AreNext, Moves}
 use Rattle.mr_shard_files.proofs.AllLemmas.{all_length}
-use Rattle.mr_shard_files.proofs.TailLemmas.{digested_moves, fills_on, merges_digested, next_halves, next_length}
-use Rattle.mr_shard_files.proofs.MadeLemmas.{unwritten_back}
+use Rattle.mr_shard_files.proofs.TailLemmas.{digested_moves, fills_on, merges_digested}
 use Rattle.mr_shard_files.proofs.RoundLemmas.{stopped_step}
 use Rattle.mr_shard_files.proofs.rounds.merge_round.Goals as goal
 
@@ -16,25 +15,26 @@ returns-in_err-fill_all-clause-err g c =
 pub merge_beside-requires : goal.merge_beside-requires
 merge_beside-requires g c = all_length (λ _ o n. Moves g.R.CountedRead.remaining g.R.CountedRead.can_fail [] o n) c.args.parts.now c.args.parts.now c.fill_all.new.parts c.in_ok-fill_all.ensures.ok ∙ c.requires
 
-pub returns-in_err-merger-clause-err : goal.returns-in_err-merger-clause-err
-returns-in_err-merger-clause-err g c =
-    let p = err_from_is_err_and c.from_residual-in_err-merger.result c.from_residual-in_err-merger.ensures.1 in
-    rw p.1 (rw p.2 (stopped_step g.R.CountedRead.remaining g.R.CountedRead.can_fail (ReportsUnwritten (g.W.CountedWrite.can_fail c.args.made.now.writer) (string_bytes c.args.made.now.name))
-    c.args.job.now c.args.parts.now c.args.last c.fill_all.new.parts c.in_err-merger.field-0.0 c.in_ok-fill_all.ensures.ok c.in_err-merger.ensures.err))
+pub returns-in_err-digests-clause-err : goal.returns-in_err-digests-clause-err
+returns-in_err-digests-clause-err g c =
+    let p = err_from_is_err_and c.from_residual-in_err-digests.result c.from_residual-in_err-digests.ensures.1 in
+    let made = c.args.made.now in
+    rw p.1 (rw p.2 (stopped_step g.R.CountedRead.remaining g.R.CountedRead.can_fail (ReportsUnwritten (g.W.CountedWrite.can_fail made.writer) (string_bytes made.name))
+    c.args.job.now c.args.parts.now c.args.merger.now c.fill_all.new.parts c.in_err-digests.field-0.0 c.in_ok-fill_all.ensures.ok c.in_err-digests.ensures.err))
+
+pub keep_all-requires : goal.keep_all-requires
+keep_all-requires g c = subst (AreNext c.fill_all.new.parts) (sym c.as_slice.ensures.value) c.in_ok-digests.ensures.digests
 
 pub returns-in_err-keep_all-clause-err : goal.returns-in_err-keep_all-clause-err
 returns-in_err-keep_all-clause-err g c =
     let p = err_from_is_err_and c.from_residual-in_err-keep_all.result c.from_residual-in_err-keep_all.ensures.1 in
     rw p.1 (rw p.2 (inl refl))
 
-pub returns-in_err-put-clause-err : goal.returns-in_err-put-clause-err
-returns-in_err-put-clause-err g c =
-    let p = err_from_is_err_and c.from_residual-in_err-put.result c.from_residual-in_err-put.ensures.1 in
-    let can_fail = g.W.CountedWrite.can_fail in
-    let old = c.args.made.now in
-    let new = c.keep_digest.new.self in
-    rw p.1 (rw p.2 (inr (inr (unwritten_back (can_fail new.writer) (can_fail old.writer) (string_bytes new.name) (string_bytes old.name) c.in_err-put.field-0.0
-    (λ f. subst can_fail c.keep_digest.ensures.writer f) (ap string_bytes c.keep_digest.ensures.name) c.in_err-put.ensures.err))))
+pub take_text-requires : goal.take_text-requires
+take_text-requires g c = c.in_ok-digests.ensures.caught.none_late
+
+pub returns-clause-kept : goal.returns-clause-kept
+returns-clause-kept g c = ap length c.take_text.ensures.merger.held ∙ c.in_ok-digests.ensures.kept
 
 pub returns-clause-read : goal.returns-clause-read
 returns-clause-read g c =
@@ -43,44 +43,17 @@ returns-clause-read g c =
     let parts = c.args.parts.now in
     let filled = c.fill_all.new.parts in
     let kept = c.keep_all.new.parts in
-    let hashers = c.split_at.result.0.now in
-    let digested = c.in_ok-keep_all.ensures in
-    fills_on remaining can_fail parts filled parts filled kept c.in_ok-fill_all.ensures.ok (digested_moves remaining can_fail hashers filled kept digested)
+    let hashers = c.as_slice.result.now in
+    fills_on remaining can_fail parts filled parts filled kept c.in_ok-fill_all.ensures.ok (digested_moves remaining can_fail hashers filled kept c.in_ok-keep_all.ensures)
 
 pub returns-clause-ok : goal.returns-clause-ok
 returns-clause-ok g c =
     let filled = c.fill_all.new.parts in
     let kept = c.keep_all.new.parts in
-    let hashers = c.split_at.result.0.now in
-    let digested = c.in_ok-keep_all.ensures in
-    merges_digested c.args.job.now hashers filled kept c.args.last c.in_ok-merger.field-0.merger digested c.in_ok-merger.ensures.ok
-
-pub returns-clause-written : goal.returns-clause-written
-returns-clause-written g c bytes h =
-    subst (λ (t : List ℕ). HasWritten g.W.CountedWrite.seen (bytes ++ t) c.put.new.self) c.text.ensures (c.in_ok-put.ensures.ok bytes (c.keep_digest.ensures.written bytes h))
-
-pub split_at-requires : goal.split_at-requires
-split_at-requires g c =
-    let count = next_length c.args.made.now c.fill_all.new.parts c.in_ok-merger.field-0.digests.items c.in_ok-merger.ensures.digests in
-    omega (arith, count, ap length c.as_slice.ensures.value)
-
-pub keep_all-requires : goal.keep_all-requires
-keep_all-requires g c =
-    let hs = c.in_ok-merger.field-0.digests.items in
-    let all : hs ≡ c.split_at.result.0.now ++ c.split_at.result.1.now = sym c.as_slice.ensures.value ∙ c.split_at.ensures.by_index.0 in
-    let both = next_halves c.args.made.now c.fill_all.new.parts hs c.split_at.result.0.now c.split_at.result.1.now all c.split_at.ensures.front_len c.in_ok-merger.ensures.digests in
-    both.next
-
-pub bounds-of_made-0 : goal.bounds-of_made-0
-bounds-of_made-0 g c =
-    let hs = c.in_ok-merger.field-0.digests.items in
-    let all : hs ≡ c.split_at.result.0.now ++ c.split_at.result.1.now = sym c.as_slice.ensures.value ∙ c.split_at.ensures.by_index.0 in
-    let both = next_halves c.args.made.now c.fill_all.new.parts hs c.split_at.result.0.now c.split_at.result.1.now all c.split_at.ensures.front_len c.in_ok-merger.ensures.digests in
-    both.some
-
-pub keep_digest-requires : goal.keep_digest-requires
-keep_digest-requires g c =
-    let hs = c.in_ok-merger.field-0.digests.items in
-    let all : hs ≡ c.split_at.result.0.now ++ c.split_at.result.1.now = sym c.as_slice.ensures.value ∙ c.split_at.ensures.by_index.0 in
-    let both = next_halves c.args.made.now c.fill_all.new.parts hs c.split_at.result.0.now c.split_at.result.1.now all c.split_at.ensures.front_len c.in_ok-merger.ensures.digests in
-    subst (HasMore c.args.made.now.hasher c.args.made.now.late.items) (sym c.in_ok-clone.ensures.cases) (both.more _)
+    let merged = c.merge_beside.new.merger in
+    record {
+      merged = merged;
+      merges = merges_digested c.args.job.now c.as_slice.result.now filled kept c.args.merger.now merged c.in_ok-keep_all.ensures c.in_ok-digests.ensures.ok;
+      gives = c.take_text.ensures.merger;
+      written = λ bytes h. c.take_text.ensures.written bytes (c.in_ok-digests.ensures.caught.written bytes h);
+    }

@@ -28,7 +28,7 @@ opened job seen hs ws o cs same is all =
 pub returns-in_err-cursors-clause-err : goal.returns-in_err-cursors-clause-err
 returns-in_err-cursors-clause-err c =
     let job = c.args.job.now in
-    let m = c.args.self in
+    let m = c.args.self.now in
     let held = c.as_slice.ensures.value ∙ ap (λ (s : Standing). s.held) c.self.view_is in
     handed (λ (e : MergeFault). (rs : List Reading) (text : List ℕ) → IsAfter job rs text m → AreWindows rs c.args.windows.now → Blames job (outputs_of rs) e)
     c.from_residual.result c.in_err-cursors.field-0.0
@@ -39,11 +39,11 @@ pub returns-in_default-clause-ok : goal.returns-in_default-clause-ok
 returns-in_default-clause-ok c =
     let job = c.args.job.now in
     let ws = c.args.windows.now in
-    let m = c.args.self in
+    let m = c.args.self.now in
     let dry = c.in_ok-cursors.ensures.none c.in_default.is in
     record {
-      within = subst (λ (ns : List ℕ). AreWithin ns ws) (sym c.in_ok-cuts.ensures) (nothing-within ws);
-      after = λ rs text a v. after-nothing job rs ws text m _ v (ap (λ (s : Standing). s.held) c.self.view_is) (ap (λ (s : Standing). s.waiting) c.self.view_is) c.clear.ensures.items c.in_ok-cuts.ensures a;
+      within = subst (λ (ns : List ℕ). AreWithin ns ws) (sym c.in_ok-self-inside.ensures) (nothing-within ws);
+      after = λ rs text a v. after-nothing job rs ws text m _ v (ap (λ (s : Standing). s.held) c.self.view_is) (ap (λ (s : Standing). s.waiting) c.self.view_is) c.clear.ensures.items c.in_ok-self-inside.ensures a;
       whole = λ rs text a v last. absurd (cc (sym last ∙ dry-window ws dry));
     }
 
@@ -56,7 +56,7 @@ pub returns-in_err-merge_lines-clause-err : goal.returns-in_err-merge_lines-clau
 returns-in_err-merge_lines-clause-err c =
     let job = c.args.job.now in
     let ws = c.args.windows.now in
-    let m = c.args.self in
+    let m = c.args.self.now in
     let held = c.as_slice.ensures.value ∙ ap (λ (s : Standing). s.held) c.self.view_is in
     let cs = c.in-Some.cursors.items in
     let o = opened job c.as_slice.result.now m.held ws c.in_ok-cursors.field-0 c.in-Some.cursors held c.in-Some.is c.in_ok-cursors.ensures.some in
@@ -76,7 +76,7 @@ cuts_of-requires c =
 pub returns-clause-shards : goal.returns-clause-shards
 returns-clause-shards c =
     let o = opened c.args.job.now c.as_slice.result.now c.as_slice.result.now c.args.windows.now c.in_ok-cursors.field-0 c.in-Some.cursors refl c.in-Some.is c.in_ok-cursors.ensures.some in
-    ap length c.in_ok-all_held.ensures ∙ length-map c.as_slice-3.result.now (λ (q : Cursor). q.held) ∙ ap length c.as_slice-3.ensures.value
+    ap length c.in_ok-self-inside-2.ensures ∙ length-map c.as_slice-3.result.now (λ (q : Cursor). q.held) ∙ ap length c.as_slice-3.ensures.value
     ∙ sym (further-count c.in-Some.cursors.items c.merge_lines.new.cursors.items c.in_ok-merge_lines.ensures.further) ∙ o.0 ∙ c.requires
 
 pub returns-clause-goes : goal.returns-clause-goes
@@ -88,7 +88,7 @@ returns-clause-goes c = λ more some.
     let further = c.in_ok-merge_lines.ensures.further in
     let o = opened job c.as_slice.result.now c.as_slice.result.now ws c.in_ok-cursors.field-0 c.in-Some.cursors refl c.in-Some.is c.in_ok-cursors.ensures.some in
     let bytes = have-bytes job c.as_slice.result.now ws cs o in
-    let cuts = c.in_ok-cuts_of.ensures ∙ ap (cuts_at ws) c.as_slice-4.ensures.value in
+    let cuts = c.in_ok-self-inside-3.ensures ∙ ap (cuts_at ws) c.as_slice-4.ensures.value in
     elim c.in_ok-merge_lines.ensures.ends [
       | inl ended ↦ absurd (cc (sym more ∙ ended-last job ws cs ds bytes further c.in_ok-merge_lines.ensures.heads ended))
       | inr dry ↦ subst (OneGoes ws) (sym cuts) (dry-goes ws cs ds bytes further dry)
@@ -98,7 +98,7 @@ pub returns-clause-ok : goal.returns-clause-ok
 returns-clause-ok c =
     let job = c.args.job.now in
     let ws = c.args.windows.now in
-    let m = c.args.self in
+    let m = c.args.self.now in
     let held = c.as_slice.ensures.value ∙ ap (λ (s : Standing). s.held) c.self.view_is in
     let cs = c.in-Some.cursors.items in
     let ds = c.merge_lines.new.cursors.items in
@@ -112,23 +112,23 @@ returns-clause-ok c =
         l.0,
         None,
         l.2,
-        subst (λ (x : Waits). WaitsFor job x None) (sym (c.waiting-3.view_is ∙ b.waiting-is)) b.in_ok-put.ensures.none,
+        subst (λ (x : Waits). WaitsFor job x None) (sym (ap (λ q. q.waiting) b.self-inside-is)) b.in_ok-put.ensures.none,
         inl (
           ap are_ended (sym c.as_slice-2.ensures.value) ∙ sym c.are_ended.ensures ∙ b.if-are_ended.true,
           refl,
-          ap (λ (v : Vec ℕ Global). v.items) b.text-is ∙ b.in_ok-put.ensures.written l.0 l.1,
+          ap (λ q. q.text.items) b.self-inside-is ∙ b.in_ok-put.ensures.written l.0 l.1,
         ),
       )
       | else-are_ended b ↦ (
         l.0,
         l.0,
         l.2,
-        subst (λ (x : Waits). WaitsFor job x l.0) (sym (c.waiting-3.view_is ∙ b.waiting-is)) l.1,
+        subst (λ (x : Waits). WaitsFor job x l.0) (sym (ap (λ q. q.waiting) b.self-inside-is)) l.1,
         inr (
           ap are_ended (sym c.as_slice-2.ensures.value) ∙ sym c.are_ended.ensures ∙ b.if-are_ended.false,
           refl,
-          ap (λ (v : Vec ℕ Global). v.items) b.text-is,
+          ap (λ q. q.text.items) b.self-inside-is,
         ),
       )
     ]))
-    (c.in_ok-all_held.ensures ∙ ap helds c.as_slice-3.ensures.value) (c.in_ok-cuts_of.ensures ∙ ap (cuts_at ws) c.as_slice-4.ensures.value) c.in_ok-merge_lines.ensures.ends
+    (c.in_ok-self-inside-2.ensures ∙ ap helds c.as_slice-3.ensures.value) (c.in_ok-self-inside-3.ensures ∙ ap (cuts_at ws) c.as_slice-4.ensures.value) c.in_ok-merge_lines.ensures.ends
