@@ -4,6 +4,7 @@ pub mod MergedLaws
 pub mod ReadingLemmas
 pub mod LineLemmas
 pub mod NumberLemmas
+pub mod FrontCutLemmas
 pub mod FrontLemmas
 pub mod CursorLemmas
 pub mod StepLemmas

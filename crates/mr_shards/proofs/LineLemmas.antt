@@ -1,9 +1,10 @@
 -- Lines, as the code reads and writes them.
-use Rattle.std.proofs.Common.{◌≡◌, ℕ, zero, suc, ◌+◌, ◌-◌, ◌<◌, ◌≤◌, ◌++◌, List, [], ◌∷◌, length, get_or, take, drop, refl, ap, sym, ◌∙◌, subst, arith, eq-eqb, inl, inr}
+use Rattle.std.proofs.Common.{◌≡◌, ℕ, zero, suc, ◌+◌, ◌-◌, ◌<◌, ◌≤◌, ◌++◌, List, [], ◌∷◌, length, get_or, take, drop, refl, ap, sym, ◌∙◌, subst, arith, eq-eqb, inl, inr, eqb, eqb-true}
+use Rattle.std.proofs.lemmas.Bool.{eqb-false}
 use Rattle.std.proofs.lemmas.List.{take_all, length-drop}
-use Rattle.memchr.specs.Find.{Nowhere, Passes, is_byte}
+use Rattle.memchr.specs.Find.{IsFirstByte, Nowhere, Passes, is_byte}
 use Rattle.std.proofs.Common.{◌^◌, Bool, true, false, map, replicate}
-use Rattle.std.specs.Prelude.{decimal}
+use Rattle.std.specs.Prelude.{MatchOption, None, Option, Some, decimal}
 use Rattle.std.proofs.lemmas.List.{length-replicate, append-nil}
 use Rattle.mr_bytes.specs.declared.Value.TheVariants.{One, At}
 use Rattle.mr_jobs.specs.JobSpec.{JobSpec, group_text_of, is_count, is_lines}
@@ -240,12 +241,39 @@ pub begun-same : (job : JobSpec) (text line rest : List ℕ) (h : BeginsWithLine
 begun-same job text line rest h e clear =
     sym (before-first 10 line rest clear) ∙ ap (before_byte 10) (sym e ∙ h.text_is) ∙ before-first 10 (h.key ++ 9 ∷ h.told) h.rest (begun-line job text h)
 
-pub begun-told : (job : JobSpec) (text line rest key told : List ℕ) (h : BeginsWithLine job text) → text ≡ line ++ 10 ∷ rest → Lacks 10 line
-    → line ≡ key ++ 9 ∷ told → Lacks 9 told → told ≡ h.told
-begun-told job text line rest key told h e clear last whole =
-    sym (after-last 9 key told whole) ∙ ap (after_last 9) (sym last ∙ begun-same job text line rest h e clear)
-    ∙ after-last 9 h.key h.told (told-lacks (group_text_of job) h.tally h.told 9 (λ r. omega (arith, r.0)) (λ e'. omega (arith, e')) (λ e'. omega (arith, e')) h.tells)
+-- of two tabs that a line is cut at the later one is known; where what stands behind the other tells something, that is the one
+pub told-once : (form : GroupText) (t : Tally) (line key told front back : List ℕ) → line ≡ front ++ 9 ∷ back → Lacks 9 back → line ≡ key ++ 9 ∷ told → IsParsedFor form t told → back ≡ told
+told-once form t line key told front back last whole e is =
+    sym (after-last 9 front back whole) ∙ ap (after_last 9) (sym last ∙ e)
+    ∙ after-last 9 key told (told-lacks form t told 9 (λ r. omega (arith, r.0)) (λ e'. omega (arith, e')) (λ e'. omega (arith, e')) is)
 
 pub begun : (form : GroupText) (t : Tally) (key told : List ℕ) → Lacks 10 key → IsParsedFor form t told → Lacks 10 (key ++ 9 ∷ told)
 begun form t key told clear is =
     Lacks-append 10 key (9 ∷ told) clear (λ e. omega (arith, e), told-lacks form t told 10 (λ r. omega (arith, r.0)) (λ e. omega (arith, e)) (λ e. omega (arith, e)) is)
+
+-- ---- lanes that hold a mark
+
+pub marked-there : (mark n : ℕ) (text : List ℕ) (i : ℕ) → get_or (map (λ b. eqb b mark) (take n text)) i false ≡ true → (i < length text) × (get_or text i 0 ≡ mark)
+marked-there mark zero text i h = absurd (cc h)
+marked-there mark (suc n) [] i h = absurd (cc h)
+marked-there mark (suc n) (b ∷ bs) zero h = (omega arith, eqb-true b mark h)
+marked-there mark (suc n) (b ∷ bs) (suc i) h = let w = marked-there mark n bs i h in (omega (arith, w.0), w.1)
+
+pub unmarked-lacks : (mark n at : ℕ) (text : List ℕ) → at ≤ n → at ≤ length text → ((j : ℕ) → j < at → get_or (map (λ b. eqb b mark) (take n text)) j false ≡ false) → Lacks mark (take at text)
+unmarked-lacks mark n zero text few within none = tt
+unmarked-lacks mark zero (suc at) text few within none = absurd (omega (arith, few))
+unmarked-lacks mark (suc n) (suc at) [] few within none = absurd (omega (arith, within))
+unmarked-lacks mark (suc n) (suc at) (b ∷ bs) few within none =
+    (eqb-false b mark (none 0 (omega arith)), unmarked-lacks mark n at bs (omega (arith, few)) (omega (arith, within)) (λ j h. none (suc j) (omega (arith, h))))
+
+pub marked-near : (mark n : ℕ) (text : List ℕ) (i : ℕ) → get_or (map (λ b. eqb b mark) (take n text)) i false ≡ true → i ≤ n
+marked-near mark zero text i h = absurd (cc h)
+marked-near mark (suc n) [] i h = absurd (cc h)
+marked-near mark (suc n) (b ∷ bs) zero h = omega arith
+marked-near mark (suc n) (b ∷ bs) (suc i) h = omega (arith, marked-near mark n bs i h)
+
+-- what a search finds
+pub place-found : (mark : ℕ) (text : List ℕ) (found : Option ℕ) → IsFirstByte (is_byte mark) text found
+    → MatchOption found (Lacks mark text) (λ at. (at < length text) × (get_or text at 0 ≡ mark) × Lacks mark (take at text))
+place-found mark text None h = lacks_all mark text h
+place-found mark text (Some at) h = (h.0.high, eqb-true _ mark h.1, lacks_front mark at text (omega (arith, h.0.high)) h.0.before)

@@ -227,3 +227,23 @@ number-only text n small e = record { is = e ∙ sym (append-nil (decimal n)); s
 pub number-all : (text : List ℕ) (n : ℕ) (rest : List ℕ) → IsCutBehind text n rest → length rest ≡ 0 → text ≡ decimal n
 number-all text n [] cut none = cut.is ∙ append-nil (decimal n)
 number-all text n (b ∷ bs) cut none = absurd (omega (arith, none))
+
+-- ---- two digits and a comma
+
+pub digit-bound : (value : ℕ) (text : List ℕ) (next : ℕ) → IsWithDigit value text next → next ≤ value * 10 + 9
+digit-bound value [] next h = absurd h
+digit-bound value (b ∷ bs) next h = omega (arith, h.1, h.2)
+
+pub comma-stops : (text : List ℕ) (value : ℕ) → 3 ≤ length text → get_or text 2 0 ≡ 44 → NoDigitFits value (drop 2 text)
+comma-stops [] value long comma = absurd (omega (arith, long))
+comma-stops (a ∷ []) value long comma = absurd (omega (arith, long))
+comma-stops (a ∷ b ∷ []) value long comma = absurd (omega (arith, long))
+comma-stops (a ∷ b ∷ c ∷ rest) value long comma = λ low high. omega (arith, low, comma)
+
+pub comma-cut : (text : List ℕ) → 3 ≤ length text → get_or text 2 0 ≡ 44 → drop 2 text ≡ 44 ∷ take (length text - 3) (drop 3 text)
+comma-cut [] long comma = absurd (omega (arith, long))
+comma-cut (a ∷ []) long comma = absurd (omega (arith, long))
+comma-cut (a ∷ b ∷ []) long comma = absurd (omega (arith, long))
+comma-cut (a ∷ b ∷ c ∷ rest) long comma =
+    let whole = sym (take_all (length (a ∷ b ∷ c ∷ rest) - 3) rest (omega arith)) in
+    λ i. comma i ∷ whole i

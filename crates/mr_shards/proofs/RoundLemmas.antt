@@ -1,5 +1,5 @@
 -- Cursors over windows, whatever comes behind these.
-use Rattle.std.proofs.Common.{◌≡◌, ℕ, zero, suc, ◌+◌, ◌<◌, ◌≤◌, ◌++◌, List, [], ◌∷◌, length, get_or, set, refl, ap, sym, ◌∙◌, subst, inl, inr, arith, Bool, true, false, Option, None, Some, map}
+use Rattle.std.proofs.Common.{Bor, ◌≡◌, ℕ, zero, suc, ◌+◌, ◌<◌, ◌≤◌, ◌++◌, List, [], ◌∷◌, length, get_or, set, refl, ap, sym, ◌∙◌, subst, inl, inr, arith, Bool, true, false, Option, None, Some, map}
 use Rattle.std.specs.Prelude.{IfSome, sum_by}
 use Rattle.std.proofs.lemmas.List.Sums.{sum_by-cons}
 use Rattle.std.proofs.lemmas.Bool.{cases_eq}
@@ -56,15 +56,19 @@ mores (r ∷ rs) [] v i = []
 mores (r ∷ rs) (w ∷ ws) v zero = v.0.more
 mores (r ∷ rs) (w ∷ ws) v (suc i) = mores rs ws v.1 i
 
-pub open-push : (job : JobSpec) (hs : List Held) (ws : List Window) (cs cs' : List Cursor) (n : ℕ) (one : Cursor) (o : Option Cursor) (x : Held) (y z : Window) → length cs ≡ n → n < length ws
-    → cs' ≡ cs ++ one ∷ [] → o ≡ Some one
-    → IfSome o (IsOpen job (get_or hs n x) (get_or ws n y).bytes.now (get_or ws n z).is_last)
+-- a line that was read makes a cursor
+pub open-here : (job : JobSpec) (held : Held) (text : Bor (List ℕ)) (is_last : Bool) (found : Option (Option Line × Bor (List ℕ))) (head : Option Line) (rest : Bor (List ℕ)) → found ≡ Some (head, rest)
+    → IfSome found (λ r. IsOpen job held text.now is_last (record { head = r.0; text = text; rest = r.1; held = held; is_last = is_last }))
+    → IsOpen job held text.now is_last (record { head = head; text = text; rest = rest; held = held; is_last = is_last })
+open-here job held text is_last found head rest is =
+    subst (λ (o : Option (Option Line × Bor (List ℕ))). IfSome o (λ r. IsOpen job held text.now is_last (record { head = r.0; text = text; rest = r.1; held = held; is_last = is_last }))) is
+
+pub open-push : (job : JobSpec) (hs : List Held) (ws : List Window) (cs cs' : List Cursor) (n : ℕ) (one : Cursor) (x : Held) (y z : Window) → length cs ≡ n → n < length ws
+    → cs' ≡ cs ++ one ∷ [] → IsOpen job (get_or hs n x) (get_or ws n y).bytes.now (get_or ws n z).is_last one
     → ((i : ℕ) (h : Held) (w : Window) (c : Cursor) → i < n → IsOpen job (get_or hs i h) (get_or ws i w).bytes.now (get_or ws i w).is_last (get_or cs i c))
     → (n < length hs)
     → (i : ℕ) (h : Held) (w : Window) (c : Cursor) → i < n + 1 → IsOpen job (get_or hs i h) (get_or ws i w).bytes.now (get_or ws i w).is_last (get_or cs' i c)
-open-push job hs ws cs cs' n one o x y z count less e is found before many i h w c l =
-    let here : IsOpen job (get_or hs n x) (get_or ws n y).bytes.now (get_or ws n z).is_last one =
-    subst (λ (p : Option Cursor). IfSome p (IsOpen job (get_or hs n x) (get_or ws n y).bytes.now (get_or ws n z).is_last)) is found in
+open-push job hs ws cs cs' n one x y z count less e here before many i h w c l =
     subst (λ (xs : List Cursor). IsOpen job (get_or hs i h) (get_or ws i w).bytes.now (get_or ws i w).is_last (get_or xs i c)) (sym e)
     (elim (cases_eq i n) [
       | inl same ↦

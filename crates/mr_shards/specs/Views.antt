@@ -1,8 +1,9 @@
 -- How clauses see lines and cursors.
-use Rattle.std.specs.Prelude.{Bool, true, false, ◌≡◌, ℕ, ◌+◌, ◌<◌, ◌^◌, List, [], ◌∷◌, ◌++◌, Option, None, Some, map, replicate, decimal}
+use Rattle.std.specs.Prelude.{Bool, true, false, ◌≡◌, ℕ, ◌+◌, ◌<◌, ◌^◌, List, [], ◌∷◌, ◌++◌, Option, None, Some, MatchOption, map, replicate, decimal}
 use Rattle.mr_bytes.specs.declared.Value.{Value}
 use Rattle.mr_bytes.specs.declared.Value.TheVariants.{One, At}
 use Rattle.mr_jobs.specs.JobSpec.{JobSpec, group_text_of}
+use Rattle.std.specs.Borrow.{Bor}
 use Rattle.std.specs.List.{flat_map}
 use Rattle.mr_bytes.specs.Cut.{Lacks}
 use Rattle.mr_jobs.specs.declared.job.GroupText.{GroupText}
@@ -41,6 +42,14 @@ IsParsedFor form tally told = ⊥
 -- a line of the job states so much behind its tab
 abbrev pub IsParsed : JobSpec → Tally → List ℕ → Type 0
 IsParsed job tally told = IsParsedFor (group_text_of job) tally told
+
+-- a line is a key, a tab and what it states
+abbrev pub IsSplit : JobSpec → List ℕ → List ℕ → Tally → Type 0
+IsSplit job line key tally = (told : List ℕ) × (line ≡ key ++ 9 ∷ told) × IsParsed job tally told
+
+-- so is this one split, or it can't be
+abbrev pub Splits : JobSpec → List ℕ → Option (Bor (List ℕ) × Tally) → Type 0
+Splits job line found = MatchOption found ((key : List ℕ) (tally : Tally) → IsSplit job line key tally → ⊥) (λ r. IsSplit job line r.0.now r.1)
 
 -- the text begins with a line of the job
 pub record BeginsWithLine (job : JobSpec) (text : List ℕ) : Type 0 where

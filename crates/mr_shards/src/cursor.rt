@@ -21,7 +21,8 @@ ghost use Rattle.mr_shards.specs.Cursors.{HasFront, IsAdvanced, IsFound, IsFront
 ghost use Rattle.mr_shards.specs.Cursors.{least_from, lesser, line_at, on, pairs_told, passed};
 ghost use Rattle.mr_shards.specs.Refused.{BlamesOnly, MayFollow, last_key};
 
-use crate::line::{Line, Tally, cut_first, moved, parse_line};
+use crate::cutting::{cut_first, find_first};
+use crate::line::{Line, Tally, moved, parse_line};
 use crate::merger::MergeFault;
 use crate::shift::Shift;
 use mr_bytes::compare_keys;
@@ -79,8 +80,8 @@ fn held_behind(cursor: &Cursor<'_>) -> Held
     }
 }
 
-/// Reads the line at the front of a window that begins behind what is held. None if it isn't whole
-/// yet; a cursor without a head at the end of the last window. Tests no order.
+/// Reads the line at the front of a window that begins behind what is held, and returns what is
+/// behind it too. None if it isn't whole yet; no line at the end of the last window. Tests no order.
 #[inline(always)]
 pub(crate) fn read_line<'a>(
     job: &Job,
@@ -88,21 +89,15 @@ pub(crate) fn read_line<'a>(
     held: Held,
     text: &'a [u8],
     is_last: bool,
-) -> Result<Option<Cursor<'a>>, MergeFault>
-    ensures some { IfOk result (λ o. IfSome o (IsOpen job.now held text.entry.now is_last)) }
+) -> Result<Option<(Option<Line<'a>>, &'a [u8])>, MergeFault>
+    ensures some { IfOk result (λ o. IfSome o (λ r. IsOpen job.now held text.entry.now is_last
+        (record { head = r.0; text = text.entry; rest = r.1; held = held; is_last = is_last }))) }
     ensures none { IfOk result (λ o. o ≡ None → Lacks 10 text.entry.now × (is_last ≡ false)) }
     ensures err { IfErr result (λ e. (more : List ℕ) → MayGoOn is_last more
         → BlamesOnly job.now shard held.count held.before None (text.entry.now ++ more) held.lines e) }
 {
-    let end = Cursor {
-        head: None,
-        text,
-        rest: text,
-        held,
-        is_last,
-    };
     if is_last && text.is_empty() {
-        return Ok(Some(end));
+        return Ok(Some((None, text)));
     }
     let bad = MergeFault::BadLine {
         shard,
@@ -111,15 +106,12 @@ pub(crate) fn read_line<'a>(
     let Some((line, rest)) = cut_first(text, b'\n') else {
         return if is_last { Err(bad) } else { Ok(None) };
     };
-    let Some(line) = parse_line(job, line) else {
+    let tab = find_first(b'\t', text).unwrap_or(0);
+    let Some(line) = parse_line(job, line, tab) else {
         return Err(bad);
     };
     let line = moved(line, shard, held.count, held.before)?;
-    Ok(Some(Cursor {
-        head: Some(line),
-        rest,
-        ..end
-    }))
+    Ok(Some((Some(line), rest)))
 }
 
 /// Keys rise strictly; those of places don't fall. `front` decides where it differs.
@@ -152,10 +144,10 @@ pub(crate) fn advance(job: &Job, shard: usize, cursor: &mut Cursor<'_>) -> Resul
         → BlamesNext job.now shard (on cursor.old more) e) }
 {
     let held = held_behind(cursor);
-    let Some(next) = read_line(job, shard, held, cursor.rest, cursor.is_last)? else {
+    let Some((head, rest)) = read_line(job, shard, held, cursor.rest, cursor.is_last)? else {
         return Ok(false);
     };
-    if let Some(line) = next.head {
+    if let Some(line) = head {
         if !may_follow(job, cursor.head, line) {
             return Err(MergeFault::BadLine {
                 shard,
@@ -163,7 +155,10 @@ pub(crate) fn advance(job: &Job, shard: usize, cursor: &mut Cursor<'_>) -> Resul
             });
         }
     }
-    *cursor = next;
+    cursor.head = head;
+    cursor.text = cursor.rest;
+    cursor.rest = rest;
+    cursor.held = held;
     Ok(true)
 }
 

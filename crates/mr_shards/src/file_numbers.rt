@@ -10,10 +10,11 @@ ghost use Rattle.mr_reduce.specs.Writing.{last_file as last_among, values_text};
 ghost use Rattle.mr_shards.specs.Lines.{fields, numbers_in, places_in};
 ghost use Rattle.mr_shards.specs.Index.{NumbersMove, NumbersRead};
 ghost use Rattle.mr_shards.specs.Index.{BeginsList, fields_left, number_past, size_left};
+ghost use Rattle.mr_shards.specs.Numbers.{IsCutBehind};
 ghost use Rattle.mr_shards.specs.Portions.{shifted_value};
 ghost use Rattle.mr_shards.specs.Views.{IsListTo};
 
-use crate::numbers::cut_number;
+use crate::numbers::{cut_number, with_digit};
 use crate::shift::Shift;
 use mr_reduce::append_file;
 use std::alloc::AllocError;
@@ -113,6 +114,23 @@ fn long_number(list: &[u8]) -> (u32, Option<&[u8]>)
     (number, None)
 }
 
+/// Cuts off a number of two digits with a comma behind it, as most are.
+#[inline(always)]
+fn cut_two_digits(list: &[u8]) -> Option<(u32, &[u8])>
+    ensures { IfSome result (λ r. IsCutBehind list.entry.now r.0 (44 ∷ r.1.now) × (r.0 < 100)) }
+{
+    if list.len() < 3 || list[0] == b'0' || list[2] != b',' {
+        return None;
+    }
+    let Some(tens) = with_digit(0, list, 0) else {
+        return None;
+    };
+    match with_digit(tens, list, 1) {
+        Some(number) => Some((number as u32, &list[3..])),
+        None => None,
+    }
+}
+
 /// The first number of a list, if it is greater than the last one and fits in 32 bits, and the list
 /// behind its comma if there is one.
 #[inline(always)]
@@ -123,6 +141,12 @@ fn next_number(list: &[u8], last: Option<u32>) -> Option<(u32, Option<&[u8]>)>
     ensures none { result ≡ None → (n : ℕ) (more : List (List ℕ)) → fields list.entry.now ≡ decimal n ∷ more
         → number_past last ≤ n → n < 2 ^ 32 → ⊥ }
 {
+    if let Some((file, rest)) = cut_two_digits(list) {
+        if u64::from(file) < least_past(last) {
+            return None;
+        }
+        return Some((file, Some(rest)));
+    }
     let Some((number, rest)) = cut_number(list) else {
         return None;
     };

@@ -5,6 +5,7 @@
 #![tactic(auto)]
 
 mod cursor;
+mod cutting;
 mod file_numbers;
 mod joining;
 mod line;
@@ -22,9 +23,9 @@ ghost use Rattle.mr_shards.specs.Judged.{GoodIsJudged, StretchIsTrue};
 ghost use Rattle.mr_shards.specs.Lines.{OneReading};
 ghost use Rattle.mr_shards.specs.Laws.{OneText};
 
+pub use cutting::{cut_first, cut_last};
 pub use file_numbers::index_law;
 pub use joining::{JoinFault, first_repeat, join_verdicts, joined_law};
-pub use line::{cut_first, cut_last};
 pub use merger::{MergeFault, Merger, ShardText, Window, merge_parts};
 pub use numbers::number_of;
 pub use portions::{left_out_law, lines_law, portions_law, worked_law};

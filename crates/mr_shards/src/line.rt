@@ -1,6 +1,6 @@
 //! A line of an output: `KEY\tTOTAL\n`, `KEY\tFILE:OFFSET\n` or, of an index, `KEY\tFILE,FILE\n`.
 ghost use Rattle.std.specs.Prelude.{◌≡◌, ◌<◌, ◌≤◌, ◌+◌, ◌*◌, ◌^◌, ◌++◌, ℕ, ◌∷◌, IfErr, IfOk};
-ghost use Rattle.std.specs.Prelude.{IfSome, List, MatchOption, None, Some, decimal, map};
+ghost use Rattle.std.specs.Prelude.{IfSome, List, MatchOption, None, Some, decimal, length, map, take};
 ghost use Rattle.mr_jobs.specs.JobSpec.{JobSpec};
 ghost use Rattle.mr_bytes.specs.Cut.{Lacks};
 ghost use Rattle.mr_shards.specs.Lines.{groups_in};
@@ -9,15 +9,16 @@ ghost use Rattle.mr_shards.specs.declared.line.Tally.{Tally};
 ghost use Rattle.mr_shards.specs.Cursors.{HasFront};
 ghost use Rattle.mr_shards.specs.Refused.{AreInFiles, IsBadPlace, IsLineOf, IsUnmoved};
 ghost use Rattle.mr_shards.specs.Portions.{shifted_start as moved_start};
-ghost use Rattle.mr_shards.specs.Views.{BeginsWithLine, IsFor, IsParsed, IsUnshifted};
+ghost use Rattle.mr_group.specs.FirstBytes.{AreBytes, first_bytes};
+ghost use Rattle.mr_shards.specs.Views.{BeginsWithLine, IsFor, IsParsed, IsUnshifted, Splits};
 ghost use Rattle.mr_shards.specs.Portions.{shifted_group, shifted_value};
 ghost use Rattle.mr_shards.specs.Views.{group_of, values_of};
 
+use crate::cutting::{cut_first, cut_last};
 use crate::file_numbers::last_file;
 use crate::merger::MergeFault;
 use crate::numbers::number_of;
 use crate::shift::{Shift, shifted_file, shifted_start};
-use memchr::{memchr, memrchr};
 use mr_group::front_of;
 use mr_jobs::Job;
 
@@ -45,28 +46,6 @@ pub(crate) struct Line<'a> {
     pub tally: Tally<'a>,
 }
 
-/// Splits the text at the first `mark`.
-pub fn cut_first(text: &[u8], mark: u8) -> Option<(&[u8], &[u8])>
-    ensures { MatchOption result (Lacks mark text.now)
-        (λ r. (text.now ≡ r.0.now ++ mark ∷ r.1.now) × Lacks mark r.0.now) }
-{
-    match memchr(mark, text) {
-        Some(at) => Some((&text[..at], &text[at + 1..])),
-        None => None,
-    }
-}
-
-/// Splits the text at the last `mark`.
-pub fn cut_last(text: &[u8], mark: u8) -> Option<(&[u8], &[u8])>
-    ensures { MatchOption result (Lacks mark text.now)
-        (λ r. (text.now ≡ r.0.now ++ mark ∷ r.1.now) × Lacks mark r.1.now) }
-{
-    match memrchr(mark, text) {
-        Some(at) => Some((&text[..at], &text[at + 1..])),
-        None => None,
-    }
-}
-
 /// Parses `FILE:OFFSET`.
 fn place_of(told: &[u8]) -> Option<(u32, u64)>
     ensures { MatchOption result
@@ -90,6 +69,7 @@ fn place_of(told: &[u8]) -> Option<(u32, u64)>
 }
 
 /// What follows the key.
+#[inline(always)]
 fn tally_of<'a>(job: &Job, told: &'a [u8]) -> Option<Tally<'a>>
     ensures { MatchOption result ((t : Tally) → IsParsed job.now t told.entry.now → ⊥)
         (λ t. IsParsed job.now t told.entry.now) }
@@ -116,8 +96,56 @@ fn tally_of<'a>(job: &Job, told: &'a [u8]) -> Option<Tally<'a>>
     }
 }
 
-/// Parses a line without its line feed.
-pub(crate) fn parse_line<'a>(job: &Job, line: &'a [u8]) -> Option<Line<'a>>
+/// Splits a line at its last tab.
+#[cold]
+fn split_at_last<'a>(job: &Job, line: &'a [u8]) -> Option<(&'a [u8], Tally<'a>)>
+    ensures { Splits job.now line.entry.now result }
+{
+    let Some((key, told)) = cut_last(line, b'\t') else {
+        return None;
+    };
+    match tally_of(job, told) {
+        Some(tally) => Some((key, tally)),
+        None => None,
+    }
+}
+
+/// Splits a line at the tab behind its key. That is its last one; as most keys have none, the place
+/// of its first one is tried before.
+#[inline(always)]
+fn split_line<'a>(job: &Job, line: &'a [u8], tab: usize) -> Option<(&'a [u8], Tally<'a>)>
+    ensures { Splits job.now line.entry.now result }
+{
+    if tab < line.len() && line[tab] == b'\t' {
+        if let Some(tally) = tally_of(job, &line[tab + 1..]) {
+            return Some((&line[..tab], tally));
+        }
+    }
+    split_at_last(job, line)
+}
+
+/// The number that `front_of` gives for the first bytes of a line, so many. One read takes eight,
+/// where the line has them.
+#[inline(always)]
+fn front_in(line: &[u8], count: usize) -> u64
+    requires { count ≤ length line.now }
+    ensures is { result ≡ first_bytes 8 (take count line.now) }
+    ensures bytes { AreBytes (take count line.now) }
+{
+    if line.len() < 8 || count == 0 {
+        return front_of(&line[..count]);
+    }
+    let eight = front_of(&line[..8]);
+    if count >= 8 {
+        return eight;
+    }
+    let behind = 64 - 8 * count as u32;
+    eight >> behind << behind
+}
+
+/// Parses a line without its line feed. `tab` is where its first tab is; it is fastest if so.
+#[inline(always)]
+pub(crate) fn parse_line<'a>(job: &Job, line: &'a [u8], tab: usize) -> Option<Line<'a>>
     requires { Lacks 10 line.now }
     ensures read { IfSome result (λ l. (rest : List ℕ)
         → groups_in job.now (line.entry.now ++ 10 ∷ rest) ≡ group_of l ∷ groups_in job.now rest) }
@@ -129,13 +157,10 @@ pub(crate) fn parse_line<'a>(job: &Job, line: &'a [u8]) -> Option<Line<'a>>
         → line.entry.now ++ 10 ∷ rest ≡ group_text job.now (group_of l) ++ rest) }
     ensures none { (result ≡ None) → (rest : List ℕ) → BeginsWithLine job.now (line.entry.now ++ 10 ∷ rest) → ⊥ }
 {
-    let Some((key, told)) = cut_last(line, b'\t') else {
+    let Some((key, tally)) = split_line(job, line, tab) else {
         return None;
     };
-    let Some(tally) = tally_of(job, told) else {
-        return None;
-    };
-    let front = front_of(key);
+    let front = front_in(line, key.len());
     Some(Line { key, front, tally })
 }
 
@@ -163,6 +188,7 @@ fn moved_place(
     }
 }
 
+#[inline(always)]
 fn moved_tally<'a>(
     tally: Tally<'a>,
     shard: usize,
@@ -190,6 +216,7 @@ fn moved_tally<'a>(
 }
 
 /// The line, moved, of a shard with so many files.
+#[inline(always)]
 pub(crate) fn moved<'a>(
     line: Line<'a>,
     shard: usize,

@@ -123,7 +123,7 @@ impl Merger {
     /// keeps at least its last whole line, as nobody knows what comes behind; where one has no whole
     /// line, nothing is taken. Lines that are not the job's or are out of order are refused, by
     /// their number in the whole output. Nothing is said of the text unless the job is that of all
-    /// rounds.
+    /// rounds, nor of the merger after a refusal.
     pub fn merge_round(
         &mut self,
         alloc: Global,
@@ -202,8 +202,16 @@ fn open_all<'a>(
     let mut cursors = Vec::new(alloc);
     for shard in 0..windows.len() {
         let Window { bytes, is_last } = windows[shard];
-        let Some(cursor) = read_line(job, shard, held[shard], bytes, is_last)? else {
+        let held = held[shard];
+        let Some((head, rest)) = read_line(job, shard, held, bytes, is_last)? else {
             return Ok(None);
+        };
+        let cursor = Cursor {
+            head,
+            text: bytes,
+            rest,
+            held,
+            is_last,
         };
         keep_cursor(&mut cursors, cursor)?;
     }

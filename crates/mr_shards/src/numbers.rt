@@ -8,7 +8,7 @@ ghost use Rattle.mr_shards.specs.Numbers.{BeginsWith, IsCutBehind, IsWithDigit, 
 
 /// The number with the digit at that place; none if there is no digit, or 64 bits don't hold it.
 #[inline(always)]
-fn with_digit(value: u64, text: &[u8], at: usize) -> Option<u64>
+pub(crate) fn with_digit(value: u64, text: &[u8], at: usize) -> Option<u64>
     ensures { MatchOption result (NoDigitFits value (drop at text.now)) (IsWithDigit value (drop at text.now)) }
 {
     if at >= text.len() {

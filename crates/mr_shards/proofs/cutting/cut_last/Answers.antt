@@ -1,7 +1,7 @@
 use Rattle.std.proofs.Common.{◌+◌, ◌∙◌, ◌++◌, ◌∷◌, take, ap, sym, subst, eqb-true}
 use Rattle.mr_bytes.specs.Cut.{Lacks}
 use Rattle.mr_shards.proofs.LineLemmas.{behind, lacks_all, lacks_behind, parted}
-use Rattle.mr_shards.proofs.line.cut_last.Goals as goal
+use Rattle.mr_shards.proofs.cutting.cut_last.Goals as goal
 
 pub returns-in-Some : goal.returns-in-Some
 returns-in-Some c =
