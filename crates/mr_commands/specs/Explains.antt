@@ -3,7 +3,7 @@ use Rattle.std.specs.Prelude.{◌≡◌, ◌⊎◌, ℕ, ◌+◌, ◌==◌, Opti
 use Rattle.std.specs.Io.KnownBytes.{Consumes}
 use Rattle.mr_partition.specs.Hosts.{partition_by}
 use Rattle.mr_jobs.specs.JobSpec.{RequestSpec}
-use Rattle.mr_store.specs.Devices.{Seen, flushed, with_bytes}
+use Rattle.mr_store.specs.Devices.{Seen, counted, flushed, with_bytes}
 use Rattle.mr_sequential.specs.Skips.{skip_fault}
 use Rattle.mr_files.specs.Holding.{Agrees as AgreesWith, Faulty, Stored}
 use Rattle.mr_files.specs.Identities.{Known}
@@ -145,13 +145,11 @@ IsExplainRefusal holds unreadable known o fault =
     ⊎ ReportsUnread unreadable (first_name o.options) fault
     ⊎ IsPartUnread unreadable (request_asked o.options) (option_map (λ s. s.now) o.result) (option_map (λ s. s.now) o.key) fault
 
--- not all could be printed
-abbrev pub IsPrintFault : Fault → Type 0
-IsPrintFault CannotPrint = ⊤
-IsPrintFault OutOfMemory = ⊤
-IsPrintFault fault = ⊥
+-- why not all could be printed: just one more call of the writer has failed, or memory was wanting
+abbrev pub IsPrintFault : Seen → Seen → Fault → Type 0
+IsPrintFault before after fault = ((fault ≡ CannotPrint) × (after.failed ≡ counted before.failed)) ⊎ (fault ≡ OutOfMemory)
 
 -- why `explain` doesn't answer: it is refused and nothing was printed, or not all could be
 abbrev pub IsExplainUnanswered : Stored → Faulty → Known → ExplainOptions → Seen → Seen → Fault → Type 0
 IsExplainUnanswered holds unreadable known o before after fault =
-    (IsExplainRefusal holds unreadable known o fault × (after ≡ before)) ⊎ IsPrintFault fault
+    (IsExplainRefusal holds unreadable known o fault × (after ≡ before)) ⊎ IsPrintFault before after fault

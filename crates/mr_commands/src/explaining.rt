@@ -139,15 +139,6 @@ fn wanted_of<'a>(key: Option<&'a str>) -> Wanted<'a>
     }
 }
 
-fn fault_of(fault: ExplainFault) -> Fault
-    ensures { IsPrintFault result }
-{
-    match fault {
-        ExplainFault::Device => Fault::CannotPrint,
-        ExplainFault::OutOfMemory => Fault::OutOfMemory,
-    }
-}
-
 fn line_of(alloc: Global, answer: Comparison<'_>) -> Result<Vec<u8>, AllocError>
     ensures { IfOk result (λ v. v.items ≡ line_said (answer_of answer.entry)) }
 {
@@ -174,7 +165,7 @@ fn status_of(answer: Comparison<'_>) -> u8
 
 fn put<W: CountedWrite>(bytes: &[u8], out: &mut W) -> Result<(), Fault>
     ensures put { OnOk result (W.seen out.new ≡ with_bytes (W.seen out.old) bytes.now) }
-    ensures refused { IfErr result IsPrintFault }
+    ensures refused { IfErr result (IsPrintFault (W.seen out.old) (W.seen out.new)) }
 {
     match write_all(out, bytes) {
         Ok(()) => Ok(()),
@@ -193,7 +184,7 @@ fn put_answer<W: CountedWrite>(
     ensures said { IfOk result (λ status. (text : List ℕ)
         × Compares query.now query.now.wanted (option_map (λ p. p.now) part.entry) text status
         × (W.seen out.new ≡ with_bytes (W.seen out.old) text)) }
-    ensures refused { IfErr result IsPrintFault }
+    ensures refused { IfErr result (IsPrintFault (W.seen out.old) (W.seen out.new)) }
 {
     let Some(part) = part else {
         return Ok(0);
@@ -225,11 +216,12 @@ fn print_all<W: CountedWrite>(
         (λ r. AreCounts query.now.job.now query.now.wanted (kept_of query.now) r.1.kept) }
     ensures left_out { IfOk result
         (λ r. AreCounts query.now.job.now query.now.wanted (left_out_of query.now) r.1.left_out) }
-    ensures refused { IfErr result IsPrintFault }
+    ensures refused { IfErr result (IsPrintFault (W.seen out.old) (W.seen out.new)) }
 {
     let explained = match mr_explain::explain(alloc, query, out) {
         Ok(explained) => explained,
-        Err(fault) => return Err(fault_of(fault)),
+        Err(ExplainFault::Device) => return Err(Fault::CannotPrint),
+        Err(ExplainFault::OutOfMemory) => return Err(Fault::OutOfMemory),
     };
     let status = put_answer(alloc, query, part, out)?;
     match out.flush() {
