@@ -1,5 +1,5 @@
 -- The evidence behind a count: the records of an input that give a key, or that give nothing, and what is printed of them.
-use Rattle.std.specs.Prelude.{ℕ, ◌+◌, ◌==◌, Bool, nat_lt, if◌then◌else◌, List, [], ◌∷◌, ◌++◌, codes, count_by, decimal, filter, length, slice_index_or, sum_by, take}
+use Rattle.std.specs.Prelude.{◌≡◌, ℕ, ◌+◌, ◌==◌, Bool, nat_lt, if◌then◌else◌, List, [], ◌∷◌, ◌++◌, codes, count_by, decimal, filter, length, slice_index_or, sum_by, take}
 use Rattle.std.specs.List.{filter_map, flat_map}
 use Rattle.std.specs.Str.{bytes_eq}
 use Rattle.mr_input.specs.Files.{nth_file}
@@ -8,6 +8,9 @@ use Rattle.mr_jobs.specs.Emissions.{Emission, emissions}
 use Rattle.mr_splits.specs.Named.{NamedRecord}
 use Rattle.mr_splits.specs.Cut.{record_named, records_of}
 use Rattle.mr_splits.specs.Kept.{kept_records}
+use Rattle.mr_store.specs.Devices.{Seen, counted}
+use Rattle.mr_explain.specs.declared.query.ExplainFault.{ExplainFault}
+use Rattle.mr_explain.specs.declared.query.ExplainFault.TheVariants.{Device}
 use Rattle.mr_explain.specs.declared.query.Query.{Query}
 use Rattle.mr_explain.specs.declared.query.SourceFile.{SourceFile}
 use Rattle.mr_explain.specs.declared.query.Wanted.{Wanted}
@@ -99,3 +102,7 @@ left_out_text q =
 abbrev pub explanation : Query → List ℕ
 explanation q =
     listing q [] (kept_of q) ++ summary_of q.job.now q.wanted (label_of q.wanted) (kept_of q) ++ left_out_text q
+
+-- why printing stopped: at `Device`, just one more call of the writer has failed
+abbrev pub IsCutOff : Seen → Seen → ExplainFault → Type 0
+IsCutOff before after fault = fault ≡ Device → after.failed ≡ counted before.failed

@@ -1,8 +1,7 @@
 //! Walks over the records that a job reads, then over those that it leaves out, and prints.
 //!
 //! Invariant of a walk: the totals are those of the records so far, and their lines are put.
-ghost use Rattle.std.specs.Prelude.{◌≡◌, ◌≤◌, ◌<◌, ◌+◌, ◌^◌, ◌++◌, ◌∷◌, [], IfOk, OnOk, length};
-ghost use Rattle.std.specs.Prelude.{decimal};
+ghost use Rattle.std.specs.Prelude.{◌≡◌, ◌≤◌, ◌<◌, ◌+◌, ◌^◌, ◌++◌, ◌∷◌, [], IfErr, IfOk, OnOk, length};
 ghost use Rattle.std.specs.Prelude.{List, ℕ, ◌==◌, codes, if◌then◌else◌};
 ghost use Rattle.std.specs.List.{filter_map};
 ghost use Rattle.mr_input.specs.Files.{nth_file};
@@ -12,7 +11,7 @@ ghost use Rattle.mr_splits.specs.Cut.{record_named, records_of};
 ghost use Rattle.mr_splits.specs.Named.{NamedRecord};
 ghost use Rattle.mr_splits.specs.Kept.{kept_records};
 ghost use Rattle.mr_store.specs.Devices.{Seen, with_bytes};
-ghost use Rattle.mr_explain.specs.Explained.{explanation, kept_of, left_out_of, line_at};
+ghost use Rattle.mr_explain.specs.Explained.{IsCutOff, explanation, kept_of, left_out_of, line_at};
 ghost use Rattle.mr_explain.specs.Explained.{label_of as the_label};
 ghost use Rattle.mr_explain.specs.Explained.{summary_line};
 ghost use Rattle.mr_explain.specs.Group.{ForKey, group_values};
@@ -20,11 +19,10 @@ ghost use Rattle.mr_explain.specs.Walking.{AreCounts, AreReady, Counts, HasWalke
 ghost use Rattle.mr_explain.specs.Walking.{IsSieve, Passes, printed};
 
 use crate::counting::count_wanted;
-use crate::lines::{LineCount, put_head};
+use crate::lines::{LineCount, put_head, put_number};
 use crate::piece::{put, send};
 use crate::query::{ExplainFault, Explained, Query, Totals, Wanted};
 use crate::sieve::sieve_of;
-use itoa::Buffer;
 use mr_bytes::RecordName;
 use mr_jobs::{Job, Mapper};
 use mr_splits::{KeptPlan, RecordAt};
@@ -58,6 +56,7 @@ fn print_record<W: CountedWrite>(
         (W.seen writer.new) walk.new.piece.items
         (prefix.now ++ line_at query.now.sources.now query.now.plan.now.files
         line.entry.file line.entry.start line.entry.bytes.now)) }
+    ensures cut { IfErr result (IsCutOff (W.seen writer.old) (W.seen writer.new)) }
 {
     let start = line.start as usize;
     let feeds = walk.lines.before(query.plan.input(), line.file, start);
@@ -93,6 +92,7 @@ fn take_record<W: CountedWrite>(
         (W.seen writer.new) walk.new.piece.items
         (printed query.now prefix.now walk.old.totals.records
         line.entry.file line.entry.start line.entry.bytes.now)) }
+    ensures cut { IfErr result (IsCutOff (W.seen writer.old) (W.seen writer.new)) }
 {
     let Some(pairs) = count_wanted(&mut walk.mapper, &mut walk.sieve, query.wanted, line)? else {
         return Ok(());
@@ -128,6 +128,7 @@ fn walk_kept<W: CountedWrite>(
     ensures counted { OnOk result (IsCounted query.now.plan.now.files walk.new.lines) }
     ensures walked { OnOk result (HasWalked query.now [] (kept_of query.now) walk.new.totals
         (W.seen writer.old) walk.old.piece.items (W.seen writer.new) walk.new.piece.items) }
+    ensures cut { IfErr result (IsCutOff (W.seen writer.old) (W.seen writer.new)) }
 {
     // An input has far fewer records than a count can tell.
     let _few = kept.plan().count();
@@ -160,6 +161,7 @@ fn take_left_out<W: CountedWrite>(
         → HasWalked query.now (codes "left out:")
         (done ++ filter_map (record_named (records_of query.now.plan.now)) (name ∷ []))
         walk.new.totals start held (W.seen writer.new) walk.new.piece.items) }
+    ensures cut { IfErr result (IsCutOff (W.seen writer.old) (W.seen writer.new)) }
 {
     if !query.plan.has_record(name) {
         return Ok(());
@@ -183,23 +185,12 @@ fn walk_left_out<W: CountedWrite>(
     ensures walked { OnOk result
         (HasWalked query.now (codes "left out:") (left_out_of query.now) walk.new.totals
         (W.seen writer.old) walk.old.piece.items (W.seen writer.new) walk.new.piece.items) }
+    ensures cut { IfErr result (IsCutOff (W.seen writer.old) (W.seen writer.new)) }
 {
     for name in query.skips {
         take_left_out(query, *name, walk, writer)?;
     }
     Ok(())
-}
-
-fn put_number<W: CountedWrite>(
-    number: u64,
-    piece: &mut Vec<u8>,
-    writer: &mut W,
-) -> Result<(), ExplainFault>
-    ensures { OnOk result (Passes (W.seen writer.old) piece.old.items
-        (W.seen writer.new) piece.new.items (decimal number)) }
-{
-    let mut digits = Buffer::new();
-    put(writer, piece, digits.format(number).as_bytes())
 }
 
 fn put_summary<W: CountedWrite>(
@@ -208,15 +199,16 @@ fn put_summary<W: CountedWrite>(
     piece: &mut Vec<u8>,
     writer: &mut W,
 ) -> Result<(), ExplainFault>
-    ensures { OnOk result (Passes (W.seen writer.old) piece.old.items
+    ensures put { OnOk result (Passes (W.seen writer.old) piece.old.items
         (W.seen writer.new) piece.new.items
         (summary_line label.now totals.pairs totals.records)) }
+    ensures cut { IfErr result (IsCutOff (W.seen writer.old) (W.seen writer.new)) }
 {
     put(writer, piece, label)?;
     put(writer, piece, b": ")?;
-    put_number(totals.pairs, piece, writer)?;
+    put_number(totals.pairs as u128, piece)?;
     put(writer, piece, b" pairs in ")?;
-    put_number(totals.records, piece, writer)?;
+    put_number(totals.records as u128, piece)?;
     put(writer, piece, b" records\n")
 }
 
@@ -226,10 +218,11 @@ fn put_left_out<W: CountedWrite>(
     piece: &mut Vec<u8>,
     writer: &mut W,
 ) -> Result<(), ExplainFault>
-    ensures { OnOk result (Passes (W.seen writer.old) piece.old.items
+    ensures put { OnOk result (Passes (W.seen writer.old) piece.old.items
         (W.seen writer.new) piece.new.items
         (if totals.records == 0 then []
         else summary_line (codes "left out") totals.pairs totals.records)) }
+    ensures cut { IfErr result (IsCutOff (W.seen writer.old) (W.seen writer.new)) }
 {
     if totals.records == 0 {
         return Ok(());
@@ -258,6 +251,7 @@ fn walk_all<W: CountedWrite>(
     ensures put { OnOk result (Passes (W.seen writer.old) walk.old.piece.items
         (W.seen writer.new) walk.new.piece.items
         (explanation query.now)) }
+    ensures cut { IfErr result (IsCutOff (W.seen writer.old) (W.seen writer.new)) }
 {
     walk_kept(query, kept, walk, writer)?;
     let of_kept = walk.totals;
@@ -307,6 +301,7 @@ pub fn explain<W: CountedWrite>(
         (λ key. r.kept.pairs ≡ length (group_values query.now key))) }
     ensures written { OnOk result
         (W.seen writer.new ≡ with_bytes (W.seen writer.old) (explanation query.now)) }
+    ensures cut { IfErr result (IsCutOff (W.seen writer.old) (W.seen writer.new)) }
 {
     let kept = query.plan.without(alloc, query.skips)?;
     let found = sieve_of(alloc, query.job, query.wanted)?;
@@ -333,13 +328,18 @@ fn explain_with<W: CountedWrite>(
         (λ r. AreCounts query.now.job.now query.now.wanted (left_out_of query.now) r.left_out) }
     ensures written { OnOk result
         (W.seen writer.new ≡ with_bytes (W.seen writer.old) (explanation query.now)) }
+    ensures cut { IfErr result (IsCutOff (W.seen writer.old) (W.seen writer.new)) }
 {
     let input = query.plan.input();
     let mut walk = Walk {
         mapper: query.job.mapper(alloc, input),
         sieve: sieve.mapper(alloc, input),
         totals: NONE,
-        lines: LineCount::new(),
+        lines: LineCount {
+            file: 0,
+            at: 0,
+            feeds: 0,
+        },
         piece: Vec::new(alloc),
     };
     let explained = walk_all(query, kept, &mut walk, writer)?;

@@ -35,24 +35,6 @@ struct KeyText<'k> {
     text: Vec<u8>,
 }
 
-/// Adds the value if its key is the one that is looked for.
-fn add_pair(found: &[u8], value: Value, to: &mut KeyText<'_>) -> Result<(), AllocError>
-    requires few { to.old.count + 1 < 2 ^ 64 }
-    ensures key { to.new.key ≡ to.old.key }
-    ensures few { OnOk result (to.new.count ≤ to.old.count + 1) }
-    ensures text { OnOk result ((job : JobSpec) (of : List ℕ) (values : List Emitted)
-        → HasText job of values to.old
-        → HasText job of
-        (values ++ (if bytes_eq found.now to.old.key.now then value ∷ [] else [])) to.new) }
-{
-    if found != to.key {
-        return Ok(());
-    }
-    to.writer.add(value, &mut to.text)?;
-    to.count += 1;
-    Ok(())
-}
-
 /// Adds the values of the pairs that have the key.
 fn add_values(pairs: LinePairs<'_>, to: &mut KeyText<'_>) -> Result<(), AllocError>
     requires pairs { length (pairs_of pairs) ≤ 2 ^ 31 }
@@ -65,7 +47,11 @@ fn add_values(pairs: LinePairs<'_>, to: &mut KeyText<'_>) -> Result<(), AllocErr
 {
     let mut left = pairs.emitter();
     while let Some((found, value)) = left.next() {
-        add_pair(found, value, to)?;
+        if found != to.key {
+            continue;
+        }
+        to.writer.add(value, &mut to.text)?;
+        to.count += 1;
     }
     Ok(())
 }

@@ -54,31 +54,6 @@ pub fn line_feeds(bytes: &[u8]) -> usize
 }
 
 impl LineCount {
-    pub fn new() -> LineCount
-        ensures { result ≡ record { file = 0; at = 0; feeds = 0 } }
-    {
-        LineCount {
-            file: 0,
-            at: 0,
-            feeds: 0,
-        }
-    }
-
-    /// What is known for a place: nothing, if the count is of another file, or of a later place.
-    fn up_to(self, file: u32, place: usize) -> LineCount
-        ensures here { (result.file ≡ file) × (result.at ≤ place) }
-        ensures counted { (files : List (List ℕ)) → IsCounted files self → IsCounted files result }
-    {
-        if self.file == file && self.at <= place {
-            return self;
-        }
-        LineCount {
-            file,
-            at: 0,
-            feeds: 0,
-        }
-    }
-
     /// The line feeds before a place of a file.
     pub fn before(&mut self, input: &Input, file: u32, place: usize) -> usize
         requires file { file < length input.now }
@@ -88,8 +63,15 @@ impl LineCount {
         ensures feeds { result ≡ feeds_before (nth_file input.now file) place }
     {
         let bytes = input.file(file as usize);
-        let known = self.up_to(file, place);
-        let feeds = known.feeds + line_feeds(&bytes[known.at..place]);
+        // Nothing is known of another file, or before a later place.
+        if self.file != file || place < self.at {
+            *self = LineCount {
+                file,
+                at: 0,
+                feeds: 0,
+            };
+        }
+        let feeds = self.feeds + line_feeds(&bytes[self.at..place]);
         *self = LineCount {
             file,
             at: place,
@@ -99,7 +81,8 @@ impl LineCount {
     }
 }
 
-fn put_number(number: u128, out: &mut Vec<u8>) -> Result<(), AllocError>
+/// Appends a number's decimal digits.
+pub(crate) fn put_number(number: u128, out: &mut Vec<u8>) -> Result<(), AllocError>
     ensures { OnOk result (out.new.items ≡ out.old.items ++ decimal number) }
 {
     let mut digits = Buffer::new();

@@ -100,7 +100,12 @@ pub fn add_excerpts<'n>(
         ++ map (λ f. f.1) (map (as_file name.entry.now) (map kept_lines excerpts.items))) }
 {
     for excerpt in excerpts {
-        add_excerpt(name, excerpt, sources, files)?;
+        sources.push(SourceFile {
+            name,
+            lines_before: excerpt.lines_before,
+            bytes_before: excerpt.bytes_before,
+        })?;
+        files.push(excerpt.bytes)?;
     }
     Ok(())
 }
@@ -112,26 +117,6 @@ pub fn plan_excerpts(alloc: Global, excerpts: &Input) -> Result<Plan<'_>, AllocE
     // An input has at most 1,024 files and 1 GiB.
     let _few = excerpts.files();
     Plan::new_fitting(alloc, excerpts, MAX_SPLIT_SIZE)
-}
-
-fn add_excerpt<'n>(
-    name: &'n [u8],
-    excerpt: Excerpt,
-    sources: &mut Vec<SourceFile<'n>>,
-    files: &mut Vec<Vec<u8>>,
-) -> Result<(), AllocError>
-    ensures sources { OnOk result (map heading_of sources.new.items ≡ map heading_of sources.old.items
-        ++ (as_file name.entry.now (kept_lines excerpt)).0 ∷ []) }
-    ensures files { OnOk result (contents files.new.items ≡ contents files.old.items
-        ++ (as_file name.entry.now (kept_lines excerpt)).1 ∷ []) }
-{
-    sources.push(SourceFile {
-        name,
-        lines_before: excerpt.lines_before,
-        bytes_before: excerpt.bytes_before,
-    })?;
-    files.push(excerpt.bytes)?;
-    Ok(())
 }
 
 /// The most bytes that one read asks for.
@@ -191,11 +176,7 @@ fn asked(left: u64) -> usize
     ensures within { result ≤ left + 1 }
     ensures piece { result ≤ 65536 }
 {
-    if left < PIECE as u64 {
-        left as usize + 1
-    } else {
-        PIECE
-    }
+    left.min(PIECE as u64 - 1) as usize + 1
 }
 
 fn read_some<R: CountedRead>(

@@ -1,4 +1,4 @@
-use Rattle.std.proofs.Common.{◌≡◌, ℕ, List, [], ◌++◌, ◌∙◌, ap, subst}
+use Rattle.std.proofs.Common.{◌≡◌, ℕ, List, [], ◌++◌, ◌∙◌, ap, subst, rules}
 use Rattle.std.specs.Prelude.{codes}
 use Rattle.mr_store.specs.Devices.{Seen}
 use Rattle.mr_explain.specs.Explained.{kept_of, label_of, left_out_of, left_out_text, listing, summary_line, summary_of}
@@ -31,12 +31,13 @@ returns g c =
     ap (λ l. summary_line l t1.pairs t1.records) c.label_of.ensures ∙ summary-is job q.wanted (label_of q.wanted) (kept_of q) t1 kept.counts in
     let first : Passes w0 p0 w2 p2 (listing q [] (kept_of q) ++ summary_of job q.wanted (label_of q.wanted) (kept_of q)) =
     passes_joined w0 w1 w2 p0 p1 p2 (listing q [] (kept_of q)) (summary_of job q.wanted (label_of q.wanted) (kept_of q)) kept.put
-    (subst (λ (l : List ℕ). Passes w1 p1 w2 p2 l) label c.in_ok-put_summary.ensures) in
+    (subst (λ (l : List ℕ). Passes w1 p1 w2 p2 l) label c.in_ok-put_summary.ensures.put) in
     let second : Passes w2 p2 w4 p4 (left_out_text q) =
     subst (λ (l : List ℕ). Passes w2 p2 w4 p4 l) (left-text q t2 left.counts)
-    (passes_joined w2 w3 w4 p2 p3 p4 (listing q (codes "left out:") (left_out_of q)) _ left.put c.in_ok-put_left_out.ensures) in
+    (passes_joined w2 w3 w4 p2 p3 p4 (listing q (codes "left out:") (left_out_of q)) _ left.put c.in_ok-put_left_out.ensures.put) in
     record {
       kept = kept.counts;
       left_out = left.counts;
       put = passes_joined w0 w2 w4 p0 p2 p4 (listing q [] (kept_of q) ++ summary_of job q.wanted (label_of q.wanted) (kept_of q)) (left_out_text q) first second;
+      cut = search rules;
     }

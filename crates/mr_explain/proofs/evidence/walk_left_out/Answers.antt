@@ -47,11 +47,9 @@ loop-name-preserved g c =
           (sym more) (taken.walked done (seen c.args.writer.now) c.args.walk.now.piece.items was.walked);
     }
 
-pub returns : goal.returns
-returns g c =
+pub returns-clause-walked : goal.returns-clause-walked
+returns-clause-walked g c =
     let q = c.args.query.now in
     let seen = g.W.CountedWrite.seen in
-    record {
-      walked = subst (λ (l : List RecordName). HasWalked q (codes "left out:") (filter_map (record_named (records_of q.plan.now)) l) c.loop-name.walk.totals (seen c.args.writer.now) c.args.walk.now.piece.items (seen c.loop-name.writer) c.loop-name.walk.piece.items)
-          (take_all c.loop-name.name-index q.skips.now c.loop-name-test.false) c.loop-name.invariant.walked;
-    }
+    subst (λ (l : List RecordName). HasWalked q (codes "left out:") (filter_map (record_named (records_of q.plan.now)) l) c.loop-name.walk.totals (seen c.args.writer.now) c.args.walk.now.piece.items (seen c.loop-name.writer) c.loop-name.walk.piece.items)
+    (take_all c.loop-name.name-index q.skips.now c.loop-name-test.false) c.loop-name.invariant.walked
