@@ -10,7 +10,7 @@ from rows import plain
 
 TEXT = {"a": b"The cat saw the dog.\nThe dog saw nothing.\n"}
 WORDS = ["--job", "words", "--out", "."]
-MEMORY = b"words take 4 to 5 times their bytes: close other programs, or cut the input into several runs"
+MEMORY = b"words take up to 5 times their bytes: close other programs, or cut the input into several runs"
 MISSING = b"No such file or directory (os error 2)"
 
 
