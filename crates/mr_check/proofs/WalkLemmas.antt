@@ -3,15 +3,12 @@ use Rattle.std.proofs.Common.{◌≡◌, ℕ, zero, suc, ◌+◌, ◌-◌, ◌�
 use Rattle.std.proofs.lemmas.List.{drop-drop, get_or-drop}
 use Rattle.std.specs.Prelude.{nat_le}
 use Rattle.std.specs.Option.{option_map}
-use Rattle.std.proofs.lemmas.Bool.{false≢true, le-leb}
+use Rattle.std.proofs.lemmas.Bool.{le-leb}
 use Rattle.mr_bytes.specs.declared.Name.{Name}
 use Rattle.mr_bytes.specs.declared.Value.{Value}
-use Rattle.mr_bytes.specs.declared.Value.TheVariants.{One}
 use Rattle.mr_bytes.specs.Lists.{Has}
 use Rattle.mr_bytes.specs.Pairs.{Triple}
 use Rattle.mr_bytes.proofs.ListLaws.{Has-all, all_from_Has}
-use Rattle.mr_jobs.specs.JobSpec.{JobSpec, WordCount, LinesWith, Resources, InvertedIndex, NthField, counts}
-use Rattle.mr_jobs.specs.Emissions.{value_at}
 use Rattle.mr_certform.specs.declared.grammar_state.Item.{Item}
 use Rattle.mr_certform.specs.declared.grammar_state.Item.TheVariants.{Entries, Entry, End}
 use Rattle.mr_sequential.specs.Good.{named}
@@ -102,16 +99,6 @@ pub key_after : (s : Subject) (st : Reached) (row : FoundItem) (o : Option Told)
     → 1 ≤ (row_after s st row).entry → IfSome o (λ t. t.key.now ≡ (row_after s st row).key)
 key_after s st row None h same some = tt
 key_after s st row (Some t) h same some = item_key s st row row.item t.key.now h same some
-
--- ---- values
-
--- a job that counts has one value
-pub counts_one : (job : JobSpec) (file at : ℕ) → counts job ≡ true → value_at job file at ≡ One
-counts_one (WordCount keep_case) file at h = refl
-counts_one (LinesWith literal fold) file at h = absurd (false≢true h)
-counts_one Resources file at h = refl
-counts_one (NthField separator number) file at h = refl
-counts_one (InvertedIndex keep_case) file at h = absurd (false≢true h)
 
 -- ---- all items
 

@@ -12,12 +12,9 @@ use Rattle.std.specs.Str.{bytes_eq}
 use Rattle.mr_bytes.specs.declared.RecordName.{RecordName}
 use Rattle.mr_bytes.specs.declared.Value.{Value}
 use Rattle.mr_bytes.specs.declared.Value.TheVariants.{At}
-use Rattle.mr_bytes.specs.Words.{word_spans}
-use Rattle.mr_bytes.specs.declared.Span.{Span}
 use Rattle.mr_input.specs.Files.{nth_file, split_count, total_size}
-use Rattle.mr_jobs.specs.JobSpec.{JobSpec, WordCount, LinesWith, Resources, InvertedIndex, NthField}
-use Rattle.mr_jobs.specs.Emissions.{Emission, emissions, word_emission}
-use Rattle.mr_jobs.specs.Literal.{holds}
+use Rattle.mr_jobs.specs.JobSpec.{JobSpec}
+use Rattle.mr_jobs.specs.Emissions.{Emission, emissions, keys_of, value_at}
 use Rattle.mr_records.specs.Records.{Record, records}
 use Rattle.mr_records.specs.RecordLaw.{BeginsALine}
 use Rattle.mr_records.proofs.LawLemmas.{start_where_lines_begin}
@@ -57,20 +54,12 @@ flat_map-twice f g (x ∷ xs) = flat_map-append f (g x) (flat_map g xs) ∙ ap (
 abbrev keys_in : List Emission → List (List ℕ)
 keys_in es = map (λ (e : Emission). e.0) es
 
-keys_at : (v w : Value) (keep_case : Bool) (line : List ℕ) (ws : List Span) → keys_in (map (word_emission v keep_case line) ws) ≡ keys_in (map (word_emission w keep_case line) ws)
-keys_at v w keep_case line [] = refl
-keys_at v w keep_case line (s ∷ ss) = ap (λ ks. (word_emission v keep_case line s).0 ∷ ks) (keys_at v w keep_case line ss)
-
-keys_of_line : (t : Bool) (v w : Value) (line : List ℕ) → keys_in (cond t ((line, v) ∷ []) []) ≡ keys_in (cond t ((line, w) ∷ []) [])
-keys_of_line true v w line = refl
-keys_of_line false v w line = refl
+keys_with : (v : Value) (ks : List (List ℕ)) → keys_in (map (λ k. (k, v)) ks) ≡ ks
+keys_with v [] = refl
+keys_with v (k ∷ ks) = ap (λ l. k ∷ l) (keys_with v ks)
 
 keys_anywhere : (job : JobSpec) (file start : ℕ) (line : List ℕ) → keys_in (emissions job file start line) ≡ keys_in (emissions job 0 0 line)
-keys_anywhere (WordCount keep_case) file start line = refl
-keys_anywhere (LinesWith literal fold) file start line = keys_of_line (holds fold line literal) (At file start) (At 0 0) line
-keys_anywhere Resources file start line = refl
-keys_anywhere (NthField separator number) file start line = refl
-keys_anywhere (InvertedIndex keep_case) file start line = keys_at (At file start) (At 0 0) keep_case line (word_spans line)
+keys_anywhere job file start line = keys_with (value_at job file start) (keys_of job line) ∙ sym (keys_with (value_at job 0 0) (keys_of job line))
 
 -- how many of these keys are the key
 abbrev key_count : List ℕ → List (List ℕ) → ℕ

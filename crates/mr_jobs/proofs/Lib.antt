@@ -5,6 +5,7 @@ pub mod FieldLemmas
 pub mod NameLemmas
 pub mod EmitLemmas
 pub mod EntryLemmas
+pub mod KeyLemmas
 pub mod CountLemmas
 pub mod SeamLemmas
 pub mod PieceLemmas

@@ -6,7 +6,7 @@ use Rattle.std.proofs.lemmas.Str.{IsUtf8-from_ascii}
 use Rattle.std.specs.Str.{IsUtf8}
 use Rattle.std.proofs.lemmas.Str.Parse.{digit_at}
 use Rattle.mr_jobs.specs.Fields.{FieldFits, NumberFits, field_literal}
-use Rattle.mr_jobs.specs.JobSpec.{WordCount, LinesWith, Resources, InvertedIndex, NthField}
+use Rattle.mr_jobs.specs.JobSpec.{JobSpec, job_flags, WordCount, LinesWith, Resources, InvertedIndex, NthField}
 use Rattle.mr_jobs.specs.Laws.{JobsAreNamed}
 
 -- no separator is a digit, with which the number begins
@@ -30,39 +30,25 @@ same_field (Some s) (Some t) n m f g e =
 
 pub jobs_named : JobsAreNamed
 jobs_named (WordCount true) (WordCount true) fa fb n f l = refl
-jobs_named (WordCount true) (WordCount false) fa fb n f l = absurd (omega (arith, f))
-jobs_named (WordCount false) (WordCount true) fa fb n f l = absurd (omega (arith, f))
 jobs_named (WordCount false) (WordCount false) fa fb n f l = refl
-jobs_named (WordCount k) (LinesWith literal fold) fa fb n f l = absurd (omega (arith, n))
-jobs_named (WordCount k) Resources fa fb n f l = absurd (omega (arith, n))
-jobs_named (WordCount k) (InvertedIndex j) fa fb n f l = absurd (omega (arith, n))
-jobs_named (WordCount k) (NthField separator number) fa fb n f l = absurd (omega (arith, n))
-jobs_named (LinesWith literal fold) (WordCount k) fa fb n f l = absurd (omega (arith, n))
 jobs_named (LinesWith literal true) (LinesWith other true) fa fb n f l = ap (λ x. LinesWith x true) l
-jobs_named (LinesWith literal true) (LinesWith other false) fa fb n f l = absurd (omega (arith, f))
-jobs_named (LinesWith literal false) (LinesWith other true) fa fb n f l = absurd (omega (arith, f))
 jobs_named (LinesWith literal false) (LinesWith other false) fa fb n f l = ap (λ x. LinesWith x false) l
-jobs_named (LinesWith literal fold) Resources fa fb n f l = absurd (omega (arith, n))
-jobs_named (LinesWith literal fold) (InvertedIndex k) fa fb n f l = absurd (omega (arith, n))
-jobs_named (LinesWith literal fold) (NthField separator number) fa fb n f l = absurd (omega (arith, n))
-jobs_named Resources (WordCount k) fa fb n f l = absurd (omega (arith, n))
-jobs_named Resources (LinesWith literal fold) fa fb n f l = absurd (omega (arith, n))
 jobs_named Resources Resources fa fb n f l = refl
-jobs_named Resources (InvertedIndex k) fa fb n f l = absurd (omega (arith, n))
-jobs_named Resources (NthField separator number) fa fb n f l = absurd (omega (arith, n))
-jobs_named (InvertedIndex k) (WordCount j) fa fb n f l = absurd (omega (arith, n))
-jobs_named (InvertedIndex k) (LinesWith literal fold) fa fb n f l = absurd (omega (arith, n))
-jobs_named (InvertedIndex k) Resources fa fb n f l = absurd (omega (arith, n))
 jobs_named (InvertedIndex true) (InvertedIndex true) fa fb n f l = refl
-jobs_named (InvertedIndex true) (InvertedIndex false) fa fb n f l = absurd (omega (arith, f))
-jobs_named (InvertedIndex false) (InvertedIndex true) fa fb n f l = absurd (omega (arith, f))
 jobs_named (InvertedIndex false) (InvertedIndex false) fa fb n f l = refl
-jobs_named (InvertedIndex k) (NthField separator number) fa fb n f l = absurd (omega (arith, n))
-jobs_named (NthField separator number) (WordCount k) fa fb n f l = absurd (omega (arith, n))
-jobs_named (NthField separator number) (LinesWith literal fold) fa fb n f l = absurd (omega (arith, n))
-jobs_named (NthField separator number) Resources fa fb n f l = absurd (omega (arith, n))
-jobs_named (NthField separator number) (InvertedIndex k) fa fb n f l = absurd (omega (arith, n))
 jobs_named (NthField s number) (NthField t other) fa fb n f l = same_field s t number other fa fb l
+-- all other pairs differ in their number or their flags
+jobs_named a b fa fb n f l = absurd (omega (arith, n, f))
+
+-- the flags of a job are below that of a partition by host
+pub flags_below : (job : JobSpec) → job_flags job < 4
+flags_below (WordCount true) = omega arith
+flags_below (WordCount false) = omega arith
+flags_below (LinesWith literal true) = omega arith
+flags_below (LinesWith literal false) = omega arith
+flags_below (InvertedIndex true) = omega arith
+flags_below (InvertedIndex false) = omega arith
+flags_below job = omega arith
 
 -- ---- a name that is read
 

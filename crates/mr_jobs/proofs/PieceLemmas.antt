@@ -9,11 +9,9 @@ use Rattle.mr_bytes.specs.Bytes.{is_word_byte, fold_byte}
 use Rattle.mr_bytes.specs.Words.{word_spans, word_spans_from, span_bytes}
 use Rattle.mr_bytes.specs.declared.Span.{Span}
 use Rattle.mr_bytes.specs.declared.Value.{Value}
-use Rattle.mr_bytes.specs.declared.Value.TheVariants.{One, At}
-use Rattle.mr_jobs.specs.Emissions.{emissions, words_at, words_from, value_at}
-use Rattle.mr_jobs.specs.JobSpec.{JobSpec, WordCount, LinesWith, Resources, InvertedIndex, NthField, ReadsWords, folds_words}
+use Rattle.mr_jobs.specs.Emissions.{words_at, words_from}
 use Rattle.mr_jobs.specs.Pieces.{IsCut, IsOf, IsSeam, read_as, start_at}
-use Rattle.mr_jobs.proofs.EmitLemmas.{words_from-folded, word_byte-folded}
+use Rattle.mr_jobs.proofs.EmitLemmas.{word_byte-folded}
 use Rattle.mr_jobs.proofs.SeamLemmas.{AreApart, IsInside, words-apart, apart-at, words-inside, words-within, words-shift, shifted}
 
 -- ---- a cut of a list of words
@@ -209,13 +207,3 @@ line-of-part folds text piece from n a b start end value is within order inside 
     let line : slice_range piece a b ≡ read_as folds (slice_range text start end) =
     ap (λ (l : List ℕ). slice_range l a b) is ∙ slice-read folds part a b ∙ ap (read_as folds) (slice-of-slice text from n a b order inside ∙ ap₂ (slice_range text) begin finish) in
     line-keys value piece a b order (omega (arith, size, inside)) ∙ ap (λ (l : List ℕ). words_from value l 0) line
-
--- what a job emits that reads words
-pub reads-emitted : (job : JobSpec) (file start : ℕ) (line : List ℕ) → ReadsWords job → words_from (value_at job file start) (read_as (folds_words job) line) 0 ≡ emissions job file start line
-reads-emitted (WordCount true) file start line is = refl
-reads-emitted (WordCount false) file start line is = words_from-folded One line
-reads-emitted (LinesWith literal fold) file start line is = absurd is
-reads-emitted Resources file start line is = absurd is
-reads-emitted (InvertedIndex true) file start line is = refl
-reads-emitted (InvertedIndex false) file start line is = words_from-folded (At file start) line
-reads-emitted (NthField separator number) file start line is = absurd is

@@ -5,7 +5,9 @@ use Rattle.mr_bytes.specs.Words.{word_spans, word_spans_from, span_bytes}
 use Rattle.mr_bytes.specs.declared.Span.{Span}
 use Rattle.mr_bytes.specs.declared.Value.{Value}
 use Rattle.mr_bytes.specs.declared.Value.TheVariants.{One, At}
-use Rattle.mr_jobs.specs.JobSpec.{JobSpec, WordCount, LinesWith, Resources, InvertedIndex, NthField}
+use Rattle.mr_jobs.specs.declared.job.GroupText.{GroupText}
+use Rattle.mr_jobs.specs.declared.job.GroupText.TheVariants.{Count, Lines, Files}
+use Rattle.mr_jobs.specs.JobSpec.{JobSpec, WordCount, LinesWith, Resources, InvertedIndex, NthField, folds_words, group_text_of}
 use Rattle.mr_jobs.specs.Fields.{field_of}
 use Rattle.mr_jobs.specs.Literal.{holds}
 use Rattle.mr_jobs.specs.Url.{url_of}
@@ -18,22 +20,35 @@ Emission = List ℕ × Value
 abbrev pub word_key : Bool → List ℕ → List ℕ
 word_key keep_case word = if keep_case then word else folded word
 
--- a word's key with a value
-abbrev pub word_emission : Value → Bool → List ℕ → Span → Emission
-word_emission value keep_case line w = (word_key keep_case (span_bytes line w), value)
+-- the keys of a line's words
+abbrev pub word_keys : Bool → List ℕ → List (List ℕ)
+word_keys keep_case line = map (λ w. word_key keep_case (span_bytes line w)) (word_spans line)
 
--- one emission for the key, if there is one
-abbrev pub one_for : Option (List ℕ) → List Emission
-one_for None = []
-one_for (Some key) = (key, One) ∷ []
+-- the one key, if there is one
+abbrev pub one_key : Option (List ℕ) → List (List ℕ)
+one_key None = []
+one_key (Some key) = key ∷ []
 
--- what the record `line` emits, which begins at the place `start` of the file `file`
+-- the keys that the record `line` gives, one for each of its pairs
+abbrev pub keys_of : JobSpec → List ℕ → List (List ℕ)
+keys_of (WordCount keep_case) line = word_keys keep_case line
+keys_of (LinesWith literal fold) line = if holds fold line literal then line ∷ [] else []
+keys_of Resources line = one_key (url_of line)
+keys_of (InvertedIndex keep_case) line = word_keys keep_case line
+keys_of (NthField separator number) line = one_key (field_of separator number line)
+
+-- the value that all pairs of a record have which begins at the place `start` of the file `file`, by what an output holds for a key
+abbrev pub value_for : GroupText → ℕ → ℕ → Value
+value_for Count file start = One
+value_for Lines file start = At file start
+value_for Files file start = At file start
+
+abbrev pub value_at : JobSpec → ℕ → ℕ → Value
+value_at job file start = value_for (group_text_of job) file start
+
+-- what the record `line` emits, which begins at the place `start` of the file `file`: each of its keys with that value
 abbrev pub emissions : JobSpec → ℕ → ℕ → List ℕ → List Emission
-emissions (WordCount keep_case) file start line = map (word_emission One keep_case line) (word_spans line)
-emissions (LinesWith literal fold) file start line = if holds fold line literal then (line, At file start) ∷ [] else []
-emissions Resources file start line = one_for (url_of line)
-emissions (InvertedIndex keep_case) file start line = map (word_emission (At file start) keep_case line) (word_spans line)
-emissions (NthField separator number) file start line = one_for (field_of separator number line)
+emissions job file start line = map (λ key. (key, value_at job file start)) (keys_of job line)
 
 -- words of a text that was folded before, each with the value
 abbrev pub words_at : Value → List ℕ → List Span → List Emission
@@ -43,28 +58,14 @@ words_at value text words = map (λ w. (span_bytes text w, value)) words
 abbrev pub words_from : Value → List ℕ → ℕ → List Emission
 words_from value text from = words_at value text (word_spans_from from (drop from text))
 
--- the value that all pairs of a record have which begins at the place `start` of the file `file`
-abbrev pub value_at : JobSpec → ℕ → ℕ → Value
-value_at (WordCount keep_case) file start = One
-value_at (LinesWith literal fold) file start = At file start
-value_at Resources file start = One
-value_at (InvertedIndex keep_case) file start = At file start
-value_at (NthField separator number) file start = One
-
 -- what is left of an emitter: one pair with the whole text, or the words from a place on
 abbrev pub still_emitted : List ℕ → ℕ → Value → Bool → List Emission
 still_emitted text from value true = (text, value) ∷ []
 still_emitted text from value false = words_from value text from
 
--- the buffer is as the job wants it for the line
+-- the buffer is as the job wants it for the line: folded, if it folds words
 abbrev pub IsReady : JobSpec → List ℕ → List ℕ → Type 0
-IsReady (WordCount true) line buffer = Unit {0}
-IsReady (WordCount false) line buffer = buffer ≡ folded line
-IsReady (LinesWith literal fold) line buffer = Unit {0}
-IsReady Resources line buffer = Unit {0}
-IsReady (InvertedIndex true) line buffer = Unit {0}
-IsReady (InvertedIndex false) line buffer = buffer ≡ folded line
-IsReady (NthField separator number) line buffer = Unit {0}
+IsReady job line buffer = folds_words job ≡ true → buffer ≡ folded line
 
 -- an emission by its number, and an empty key past the last
 abbrev pub nth_emission : List Emission → ℕ → Emission

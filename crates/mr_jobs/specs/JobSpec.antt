@@ -124,8 +124,9 @@ JobFits Resources = Unit {0}
 JobFits (InvertedIndex keep_case) = Unit {0}
 JobFits (NthField separator number) = FieldFits separator number
 
--- it counts fields, and the literal names which
-pub record CountsFieldsNamed (literal : List ℕ) (job : JobSpec) : Type 0 where
+-- a certificate names the job by this number, these flags and this literal
+pub record IsNamed (number flags : ℕ) (literal : List ℕ) (job : JobSpec) : Type 0 where
   pub fits : JobFits job
-  pub number : job_number job ≡ 5
+  pub number_is : job_number job ≡ number
+  pub flags_is : job_flags job ≡ flags
   pub literal_is : job_literal job ≡ literal

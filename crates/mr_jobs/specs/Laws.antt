@@ -1,8 +1,8 @@
 -- What the computed definitions are, in the words of the subject.
 use Rattle.std.specs.Prelude.{◌≡◌, ◌↔◌, ℕ, ◌<◌, ◌≤◌, ◌⊎◌, Bool, List, [], None, Some, IsTrue, All, length, sum_by}
 use Rattle.mr_bytes.specs.declared.Value.TheVariants.{One}
-use Rattle.mr_jobs.specs.JobSpec.{JobSpec, JobFits, NthField, counts, job_flags, job_literal, job_number}
-use Rattle.mr_jobs.specs.Emissions.{emissions, value_at}
+use Rattle.mr_jobs.specs.JobSpec.{JobSpec, JobFits, NthField, counts, folds_words, job_flags, job_literal, job_number}
+use Rattle.mr_jobs.specs.Emissions.{emissions, keys_of, value_at}
 use Rattle.mr_jobs.specs.Fields.{IsNthBetween, IsNthStretch, field_of}
 use Rattle.mr_jobs.specs.Literal.{Holds, holds}
 use Rattle.mr_jobs.specs.Url.{IsRequestFor, url_of}
@@ -37,6 +37,10 @@ HasEmptyField job line = (line ≡ []) × ((separator : ℕ) × (job ≡ NthFiel
 -- a record has no more emissions than bytes, except for an empty field
 abbrev pub FewEmissions : Type 0
 FewEmissions = (job : JobSpec) (file start : ℕ) (line : List ℕ) → JobFits job → (length (emissions job file start line) ≤ length line) ⊎ HasEmptyField job line
+
+-- each key stands in its record, compared folded where the job folds words
+abbrev pub KeysStand : Type 0
+KeysStand = (job : JobSpec) (line : List ℕ) → All (Holds (folds_words job) line) (keys_of job line)
 
 -- no key is longer than its record
 abbrev pub ShortKeys : Type 0

@@ -2,8 +2,8 @@
 ghost use Rattle.std.specs.Prelude.{◌≡◌, ◌↔◌, IsTrue, ℕ, ◌+◌, ◌≤◌, ◌<◌, ◌^◌, ◌++◌, [], ◌∷◌, All};
 ghost use Rattle.std.specs.Prelude.{OnOk, OnErr, if◌then◌else◌, is_ok, length, take, vec_len};
 ghost use Rattle.mr_jobs.specs.Emissions.{emissions, nth_emission};
-ghost use Rattle.mr_jobs.specs.Laws.{FewEmissions, ShortKeys, KeysFitTheRecord, CountersEmitOnes};
-ghost use Rattle.mr_jobs.specs.Laws.{OneValueEach};
+ghost use Rattle.mr_jobs.specs.Laws.{FewEmissions, KeysStand, ShortKeys, KeysFitTheRecord};
+ghost use Rattle.mr_jobs.specs.Laws.{CountersEmitOnes, OneValueEach};
 ghost use Rattle.mr_jobs.specs.Views.{IsIn, entries_seen, entry_for};
 
 use crate::emitter::Emitter;
@@ -153,10 +153,12 @@ pub fn map(
     done
 }
 
-/// A record emits no more pairs than it has bytes, but for an empty field; its keys, even together, are no longer than it;
-/// a job that counts emits only `One`; and all pairs of a record have the value `Job::value_at`.
+/// A record emits no more pairs than it has bytes, but for an empty field; each of its keys stands in it; its keys, even
+/// together, are no longer than it; a job that counts emits only `One`; and all pairs of a record have the value
+/// `Job::value_at`.
 pub fn emission_law()
     ensures few { FewEmissions }
+    ensures stand { KeysStand }
     ensures short { ShortKeys }
     ensures together { KeysFitTheRecord }
     ensures ones { CountersEmitOnes }

@@ -131,18 +131,6 @@ fn word_from(text: &[u8], from: usize) -> Option<Span>
     next_word(text, from)
 }
 
-fn words_of<'a>(keep_case: bool, line: &'a [u8], buffer: &'a [u8], value: Value) -> LinePairs<'a>
-    requires line { length line.now ≤ 2 ^ 30 }
-    requires buffer { keep_case ≡ false → length buffer.now ≤ 2 ^ 30 }
-    ensures { pairs_of result ≡ words_from value (if keep_case then line.entry.now else buffer.entry.now) 0 }
-{
-    if keep_case {
-        LinePairs::all_words(line, value)
-    } else {
-        LinePairs::all_words(buffer, value)
-    }
-}
-
 ghost use Rattle.mr_jobs.specs.Emissions.{words_from};
 
 impl Job {
@@ -157,11 +145,10 @@ impl Job {
         ensures full { OnErr result (vec_capacity buffer.old < length line.now) }
         ensures err { OnErr result (buffer.new.items ≡ buffer.old.items) }
     {
-        match &self.kind {
-            Kind::Words { keep_case: false } | Kind::Index { keep_case: false } => {
-                fill_folded(line, buffer)
-            }
-            _ => Ok(()),
+        if self.folds_words() {
+            fill_folded(line, buffer)
+        } else {
+            Ok(())
         }
     }
 
@@ -188,8 +175,12 @@ impl Job {
     {
         let value = self.value_at(file, start);
         match &self.kind {
-            Kind::Words { keep_case } | Kind::Index { keep_case } => {
-                words_of(*keep_case, line, buffer, value)
+            Kind::Words { .. } | Kind::Index { .. } => {
+                if self.folds_words() {
+                    LinePairs::all_words(buffer, value)
+                } else {
+                    LinePairs::all_words(line, value)
+                }
             }
             Kind::Grep { literal, fold } => {
                 if holds(line, literal.as_slice(), *fold) {

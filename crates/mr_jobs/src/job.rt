@@ -3,7 +3,7 @@ ghost use Rattle.std.specs.Prelude.{◌≡◌, ◌↔◌, ℕ, ◌≤◌, ◌<�
 ghost use Rattle.std.specs.Prelude.{[], ◌⊎◌, Contains, MatchOption};
 ghost use Rattle.std.specs.Option.{IsSomeAnd};
 ghost use Rattle.mr_jobs.specs.JobSpec.{WordCount, LinesWith, Resources, InvertedIndex, NthField};
-ghost use Rattle.mr_jobs.specs.JobSpec.{CountsFieldsNamed, JobFits, JobSpec, LiteralFits, counts, has_lines, job_number, row_of};
+ghost use Rattle.mr_jobs.specs.JobSpec.{IsNamed, JobFits, JobSpec, LiteralFits, counts, has_lines, job_number, row_of};
 ghost use Rattle.mr_jobs.specs.JobSpec.{folds_words, job_literal};
 ghost use Rattle.mr_jobs.specs.Emissions.{value_at};
 ghost use Rattle.mr_jobs.specs.Fields.{CannotSeparate, FieldFits, NumberFits};
@@ -172,18 +172,40 @@ impl Job {
         })
     }
 
-    /// The job that counts the fields that a literal names, if it names any.
-    pub fn field_named(alloc: Global, literal: &[u8]) -> Result<Option<Job>, AllocError>
-        ensures { IfOk result (λ r. MatchOption r ((job : JobSpec) → CountsFieldsNamed literal.now job → ⊥)
-            (λ j. CountsFieldsNamed literal.now j)) }
+    /// The only job that may have this name.
+    fn of_name(alloc: Global, number: u32, flags: u32, literal: &[u8]) -> Result<Job, JobFault>
+        ensures only { (job : JobSpec) → IsNamed number flags literal.now job → IfOk result (λ j. j ≡ job) }
+        ensures some { (job : JobSpec) → IsNamed number flags literal.now job → IsOkUnless result JobFault.OutOfMemory }
     {
-        let (separator, digits) = name_parts(literal);
-        let job = match Job::field(alloc, separator, number_of(digits)) {
+        match number {
+            1 => Ok(Job::words(flags == 1)),
+            2 => Job::grep(alloc, literal, flags == 2),
+            4 => Ok(Job::index(flags == 1)),
+            5 => {
+                let (separator, digits) = name_parts(literal);
+                Job::field(alloc, separator, number_of(digits))
+            }
+            _ => Ok(Job::url()),
+        }
+    }
+
+    /// The job that a certificate names by this number, these flags and this literal, if there is one.
+    pub fn named(
+        alloc: Global,
+        number: u32,
+        flags: u32,
+        literal: &[u8],
+    ) -> Result<Option<Job>, AllocError>
+        ensures { IfOk result (λ r. MatchOption r ((job : JobSpec) → IsNamed number flags literal.now job → ⊥)
+            (λ j. IsNamed number flags literal.now j)) }
+    {
+        let job = match Job::of_name(alloc, number, flags, literal) {
             Ok(job) => job,
             Err(JobFault::OutOfMemory) => return Err(AllocError),
             Err(_) => return Ok(None),
         };
-        if job.literal() == literal {
+        let row = job.row();
+        if row.number == number && row.flags == flags && job.literal() == literal {
             Ok(Some(job))
         } else {
             Ok(None)
@@ -235,9 +257,9 @@ impl Job {
     pub fn value_at(&self, file: u32, start: u32) -> Value
         ensures { result ≡ value_at self.now file start }
     {
-        match &self.kind {
-            Kind::Words { .. } | Kind::Url | Kind::Field(_) => Value::One,
-            Kind::Grep { .. } | Kind::Index { .. } => Value::At {
+        match self.row().text {
+            GroupText::Count => Value::One,
+            GroupText::Lines | GroupText::Files => Value::At {
                 file,
                 offset: start as u64,
             },
@@ -249,7 +271,7 @@ impl Job {
     {
         match &self.kind {
             Kind::Words { keep_case } | Kind::Index { keep_case } => !*keep_case,
-            Kind::Grep { .. } | Kind::Url | Kind::Field(_) => false,
+            _ => false,
         }
     }
 

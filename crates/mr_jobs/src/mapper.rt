@@ -103,8 +103,8 @@ impl<'j, 'i> Mapper<'j, 'i> {
                 self.piece.ready(file, text, from, from + line.len())?;
                 return Ok(self.piece.emit(job.value_at(file, start)));
             }
-            Kind::Url | Kind::Field(_) => return Ok(job.pairs(file, start, line, line)),
             Kind::Grep { literal, fold } => (literal.as_slice(), *fold),
+            _ => return Ok(job.pairs(file, start, line, line)),
         };
         if self.file != file {
             let text = self.input.file(file as usize);

@@ -8,8 +8,11 @@ use Rattle.std.specs.Prelude.{Err, decimal, nat_eq, Some as Just}
 use Rattle.std.specs.List.{common_prefix_len, flat_map}
 use Rattle.mr_bytes.specs.declared.Value.{Value}
 use Rattle.mr_bytes.specs.declared.Value.TheVariants.{One}
-use Rattle.mr_jobs.specs.JobSpec.{JobSpec, WordCount, LinesWith, Resources, InvertedIndex, NthField, counts, has_lines}
-use Rattle.mr_reduce.specs.Text.{place_line, text_of, total_line}
+use Rattle.mr_jobs.specs.declared.job.GroupText.{GroupText}
+use Rattle.mr_jobs.specs.declared.job.GroupText.TheVariants.{Lines}
+use Rattle.mr_jobs.specs.JobSpec.{JobSpec, counts, group_text_of, has_lines, is_lines}
+use Rattle.mr_reduce.specs.Text.{place_line, text_for, text_of, total_line}
+use Rattle.mr_reduce.proofs.TextLemmas.{counters_tell_the_number}
 use Rattle.mr_verdict.specs.declared.answers.No.{No}
 use Rattle.mr_verdict.specs.declared.answers.No.TheVariants.{OutputDiffers}
 use Rattle.mr_verdict.specs.declared.items.JudgeError.{JudgeError}
@@ -31,16 +34,17 @@ flat_all f (x ∷ xs) (suc i) d h =
     ∙ (sym (append_assoc (f x) (flat_map f (take i xs)) (flat_map f (get_or xs i d ∷ []) ++ flat_map f (drop (i + 1) xs)))
     ∙ ap (λ k. (f x ++ flat_map f (take i xs)) ++ (flat_map f (get_or xs i d ∷ []) ++ flat_map f (drop k (x ∷ xs)))) (sym next))
 
+lines_for : (form : GroupText) (key : List ℕ) (vs : List Value) (i : ℕ) (v : Value) → is_lines form ≡ true → i < length vs → v ≡ get_or vs i One
+    → text_for form key vs ≡ text_for form key (take i vs) ++ (text_for form key (v ∷ []) ++ text_for form key (drop (i + 1) vs))
+lines_for Lines key vs i v e h is =
+    flat_all (place_line key) vs i One h
+    ∙ ap (λ w. flat_map (place_line key) (take i vs) ++ (flat_map (place_line key) (w ∷ []) ++ flat_map (place_line key) (drop (i + 1) vs))) (sym is)
+lines_for form key vs i v e h is = absurd (cc e)
+
 -- the text of all values, of which one stands behind others and before others
 pub lines_all : (job : JobSpec) (key : List ℕ) (vs : List Value) (i : ℕ) (v : Value) → has_lines job ≡ true → i < length vs → v ≡ get_or vs i One
     → text_of job key vs ≡ text_of job key (take i vs) ++ (text_of job key (v ∷ []) ++ text_of job key (drop (i + 1) vs))
-lines_all (WordCount keep_case) key vs i v e h is = absurd (let no : false ≡ true = e in cc)
-lines_all (LinesWith literal fold) key vs i v e h is =
-    flat_all (place_line key) vs i One h
-    ∙ ap (λ w. flat_map (place_line key) (take i vs) ++ (flat_map (place_line key) (w ∷ []) ++ flat_map (place_line key) (drop (i + 1) vs))) (sym is)
-lines_all Resources key vs i v e h is = absurd (let no : false ≡ true = e in cc)
-lines_all (NthField separator number) key vs i v e h is = absurd (let no : false ≡ true = e in cc)
-lines_all (InvertedIndex keep_case) key vs i v e h is = absurd (let no : false ≡ true = e in cc)
+lines_all job key vs i v e h is = lines_for (group_text_of job) key vs i v e h is
 
 -- ---- where texts part
 
@@ -110,11 +114,7 @@ text_behind old mid new pre line text stood is told rest later h =
 -- ---- a key that is counted once
 
 pub counted_once : (job : JobSpec) (key : List ℕ) (vs : List Value) → counts job ≡ true → length vs ≡ 1 → text_of job key vs ≡ total_line key 1
-counted_once (WordCount keep_case) key vs e one = ap (total_line key) one
-counted_once (LinesWith literal fold) key vs e one = absurd (let no : false ≡ true = e in cc)
-counted_once Resources key vs e one = ap (total_line key) one
-counted_once (NthField separator number) key vs e one = ap (total_line key) one
-counted_once (InvertedIndex keep_case) key vs e one = absurd (let no : false ≡ true = e in cc)
+counted_once job key vs e one = counters_tell_the_number job key vs e ∙ ap (total_line key) one
 
 pub one_line : (key : List ℕ) → total_line key 1 ≡ key ++ 9 ∷ 49 ∷ 10 ∷ []
 one_line key =

@@ -1,15 +1,19 @@
 -- The text of a group of a job that counts, and texts that grow.
-use Rattle.std.proofs.Common.{◌≡◌, ℕ, ◌++◌, true, false, List, length, take, drop, arith, length-append, refl, ap, ◌∙◌, sym}
+use Rattle.std.proofs.Common.{◌≡◌, ℕ, ◌++◌, true, List, length, take, drop, arith, length-append, refl, ap, ◌∙◌, sym}
 use Rattle.std.proofs.lemmas.List.{take-append-le, take-append-drop, take_all}
-use Rattle.mr_jobs.specs.JobSpec.{WordCount, LinesWith, Resources, InvertedIndex, NthField}
+use Rattle.mr_bytes.specs.declared.Value.{Value}
+use Rattle.mr_jobs.specs.declared.job.GroupText.{GroupText}
+use Rattle.mr_jobs.specs.declared.job.GroupText.TheVariants.{Count}
+use Rattle.mr_jobs.specs.JobSpec.{group_text_of, is_count}
 use Rattle.mr_reduce.specs.Laws.{CountersTellTheNumber}
+use Rattle.mr_reduce.specs.Text.{text_for, total_line}
+
+tells_the_number : (form : GroupText) (key : List ℕ) (values : List Value) → is_count form ≡ true → text_for form key values ≡ total_line key (length values)
+tells_the_number Count key values is = refl
+tells_the_number form key values is = absurd (cc is)
 
 pub counters_tell_the_number : CountersTellTheNumber
-counters_tell_the_number (WordCount keep_case) key values is = refl
-counters_tell_the_number (LinesWith literal fold) key values is = absurd (let no : false ≡ true = is in cc)
-counters_tell_the_number Resources key values is = refl
-counters_tell_the_number (NthField separator number) key values is = refl
-counters_tell_the_number (InvertedIndex keep_case) key values is = absurd (let no : false ≡ true = is in cc)
+counters_tell_the_number job key values is = tells_the_number (group_text_of job) key values is
 
 -- what stands in front stays there while the text behind it changes
 pub front-kept : (n m : ℕ) (first more middle now : List ℕ) → middle ≡ first ++ more → n ≡ length first → m ≡ length middle

@@ -6,8 +6,10 @@ use Rattle.mr_bytes.specs.declared.Value.{Value}
 use Rattle.mr_bytes.specs.Lists.{Has}
 use Rattle.mr_records.specs.Records.{Record, records}
 use Rattle.mr_input.specs.Files.{split_count}
-use Rattle.mr_jobs.specs.JobSpec.{JobSpec, WordCount, LinesWith, Resources, InvertedIndex, NthField, counts}
-use Rattle.mr_jobs.specs.Emissions.{emissions, value_at}
+use Rattle.mr_jobs.specs.declared.job.GroupText.{GroupText}
+use Rattle.mr_jobs.specs.declared.job.GroupText.TheVariants.{Count, Lines, Files}
+use Rattle.mr_jobs.specs.JobSpec.{JobSpec, counts, group_text_of}
+use Rattle.mr_jobs.specs.Emissions.{emissions, value_for}
 use Rattle.std.specs.List.{flat_map}
 use Rattle.mr_reduce.specs.Text.{file_in}
 use Rattle.mr_reduce.specs.Files.{NeverFalls, Tells}
@@ -124,14 +126,12 @@ triples-climb job choice some =
 -- ---- what a writer of texts asks
 
 -- a value tells no file but its record's
-tells-file : (job : JobSpec) (file start f : ℕ) → Has (file_in (value_at job file start)) f → f ≡ file
-tells-file (WordCount keep_case) file start f h = absurd h
-tells-file (LinesWith literal fold) file start f (inl e) = sym e
-tells-file (LinesWith literal fold) file start f (inr none) = absurd none
-tells-file Resources file start f h = absurd h
-tells-file (NthField separator number) file start f h = absurd h
-tells-file (InvertedIndex keep_case) file start f (inl e) = sym e
-tells-file (InvertedIndex keep_case) file start f (inr none) = absurd none
+tells-file : (form : GroupText) (file start f : ℕ) → Has (file_in (value_for form file start)) f → f ≡ file
+tells-file Count file start f h = absurd h
+tells-file Lines file start f (inl e) = sym e
+tells-file Lines file start f (inr none) = absurd none
+tells-file Files file start f (inl e) = sym e
+tells-file Files file start f (inr none) = absurd none
 
 climbs-inside : {X Y : Type 0} (file : X → ℕ) (g : Y → X) (floor : ℕ) (ys : List Y) → Climbs file floor (map g ys) → Climbs (λ y. file (g y)) floor ys
 climbs-inside file g floor [] up = tt
@@ -150,7 +150,7 @@ key-rises job choice k some =
     let name : Triple → Name = λ t. t.name in
     let file : Triple → ℕ = λ t. file_under all t.name in
     climbs-values (file_under all) (value_under job all)
-    (λ n f h. tells-file job (record_under all n).file (record_under all n).start f h)
+    (λ n f h. tells-file (group_text_of job) (record_under all n).file (record_under all n).start f h)
     0 (names_with ts k)
     (climbs-outside (file_under all) name 0 (triples_with ts k)
     (climbs-filter file (λ t. bytes_eq t.key k) 0 ts (climbs-inside (file_under all) name 0 ts (triples-climb job choice some))))

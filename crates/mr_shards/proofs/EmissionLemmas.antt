@@ -4,14 +4,11 @@ use Rattle.std.proofs.lemmas.List.{append_assoc, map-append}
 use Rattle.std.specs.List.{flat_map}
 use Rattle.mr_bytes.specs.declared.RecordName.{RecordName}
 use Rattle.mr_bytes.specs.declared.Value.{Value}
-use Rattle.mr_bytes.specs.declared.Value.TheVariants.{One, At}
 use Rattle.mr_bytes.specs.Pairs.{Triple}
-use Rattle.mr_bytes.specs.Words.{word_spans}
-use Rattle.mr_jobs.specs.JobSpec.{JobSpec, WordCount, LinesWith, Resources, InvertedIndex, NthField}
-use Rattle.mr_jobs.specs.Emissions.{Emission, emissions, word_emission, one_for}
-use Rattle.mr_jobs.specs.Literal.{holds}
-use Rattle.mr_jobs.specs.Fields.{field_of}
-use Rattle.mr_jobs.specs.Url.{url_of}
+use Rattle.mr_jobs.specs.declared.job.GroupText.{GroupText}
+use Rattle.mr_jobs.specs.declared.job.GroupText.TheVariants.{Count, Lines, Files}
+use Rattle.mr_jobs.specs.JobSpec.{JobSpec, group_text_of}
+use Rattle.mr_jobs.specs.Emissions.{Emission, emissions, keys_of, value_at, value_for}
 use Rattle.mr_splits.specs.Cut.{left_out_flags}
 use Rattle.mr_splits.specs.Named.{NamedRecord, is_left_out, named_records}
 use Rattle.mr_sequential.specs.Emitted.{emitted, placed_from, record_triples}
@@ -61,26 +58,17 @@ map-two : {X Y Z : Type 0} (f : Y → Z) (g : X → Y) (h : X → Z) (xs : List 
 map-two f g h [] same = refl
 map-two f g h (x ∷ xs) same = let here = same x in let rest = map-two f g h xs same in λ i. here i ∷ rest i
 
-words-shifted : (s : Shift) (value : Value) (keep_case : Bool) (line : List ℕ)
-    → map (word_emission (shifted_value s value) keep_case line) (word_spans line) ≡ map (shifted_pair s) (map (word_emission value keep_case line) (word_spans line))
-words-shifted s value keep_case line =
-    sym (map-two (shifted_pair s) (word_emission value keep_case line) (word_emission (shifted_value s value) keep_case line) (word_spans line) (λ w. refl))
-
-one-shifted : (s : Shift) (o : Option (List ℕ)) → one_for o ≡ map (shifted_pair s) (one_for o)
-one-shifted s None = refl
-one-shifted s (Some key) = refl
+value-shifted : (form : GroupText) (s : Shift) (file start : ℕ) → value_for form (s.files + file) (shifted_start s file start) ≡ shifted_value s (value_for form file start)
+value-shifted Count s file start = refl
+value-shifted Lines s file start = refl
+value-shifted Files s file start = refl
 
 emissions-shifted : (job : JobSpec) (s : Shift) (file start : ℕ) (line : List ℕ)
     → emissions job (s.files + file) (shifted_start s file start) line ≡ map (shifted_pair s) (emissions job file start line)
-emissions-shifted (WordCount keep_case) s file start line = words-shifted s One keep_case line
-emissions-shifted (LinesWith literal fold) s file start line = by (holds fold line literal)
-  where
-    by : (t : Bool) → cond t ((line, At (s.files + file) (shifted_start s file start)) ∷ []) [] ≡ map (shifted_pair s) (cond t ((line, At file start) ∷ []) [])
-    by true = refl
-    by false = refl
-emissions-shifted Resources s file start line = one-shifted s (url_of line)
-emissions-shifted (NthField separator number) s file start line = one-shifted s (field_of separator number line)
-emissions-shifted (InvertedIndex keep_case) s file start line = words-shifted s (At file start) keep_case line
+emissions-shifted job s file start line =
+    let moved : List ℕ → Emission = λ key. (key, value_at job (s.files + file) (shifted_start s file start)) in
+    sym (map-two (shifted_pair s) (λ key. (key, value_at job file start)) moved (keys_of job line)
+    (λ key. ap (λ (v : Value). (key, v)) (sym (value-shifted (group_text_of job) s file start))))
 
 pub kept-shifted : (job : JobSpec) (s : Shift) (ts : List Bool) (bs : List Bare) → kept_pairs job ts (map (shifted_bare s) bs) ≡ map (shifted_pair s) (kept_pairs job ts bs)
 kept-shifted job s [] bs = refl

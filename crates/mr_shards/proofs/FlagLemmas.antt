@@ -1,21 +1,11 @@
 -- What flags tell.
-use Rattle.std.proofs.Common.{◌≡◌, ◌+◌, ◌<◌, cond, refl, ap, arith, true, false}
+use Rattle.std.proofs.Common.{◌≡◌, ◌+◌, ◌<◌, cond, refl, ap, arith}
 use Rattle.std.proofs.lemmas.Bool.{ne_eqb}
 use Rattle.mr_bytes.specs.declared.By.{By}
 use Rattle.mr_bytes.specs.declared.By.TheVariants.{Host, Key}
-use Rattle.mr_jobs.specs.JobSpec.{ByFits, InvertedIndex, NthField, JobSpec, LinesWith, Resources, WordCount, by_flag, job_flags}
+use Rattle.mr_jobs.specs.JobSpec.{ByFits, JobSpec, Resources, by_flag, job_flags}
+use Rattle.mr_jobs.proofs.NameLemmas.{flags_below}
 use Rattle.mr_shards.specs.Truth.{by_told}
-
--- the flags of a job are below that of a partition by host
-flags_below : (job : JobSpec) → job_flags job < 4
-flags_below (WordCount true) = omega arith
-flags_below (WordCount false) = omega arith
-flags_below (LinesWith literal true) = omega arith
-flags_below (LinesWith literal false) = omega arith
-flags_below Resources = omega arith
-flags_below (NthField separator number) = omega arith
-flags_below (InvertedIndex true) = omega arith
-flags_below (InvertedIndex false) = omega arith
 
 -- the flags of a request tell those of its job, and what chooses its partitions
 pub one_flag : (a b : JobSpec) (m n : By) → job_flags a + by_flag m ≡ job_flags b + by_flag n → (job_flags a ≡ job_flags b) × (m ≡ n)

@@ -2,24 +2,18 @@
 use Rattle.std.proofs.Common.{◌≡◌, ◌≢◌, ℕ, zero, suc, ◌+◌, ◌-◌, ◌<◌, ◌^◌, ◌++◌, List, [], ◌∷◌, length, take, drop, refl, ap, subst, inl, inr, arith, Bool, true, false, cond, Option, None, Some, map, All}
 use Rattle.std.proofs.lemmas.List.Elements.{recursion_from_All}
 use Rattle.std.specs.List.{AllByRecursion, flat_map}
-use Rattle.mr_bytes.specs.Bytes.{fold_byte, folded, is_upper}
+use Rattle.mr_bytes.specs.Cut.{Lacks}
 use Rattle.mr_bytes.specs.Lists.{Has}
-use Rattle.mr_bytes.specs.Words.{word_spans, span_bytes}
 use Rattle.mr_bytes.specs.declared.RecordName.{RecordName}
-use Rattle.mr_bytes.specs.declared.Span.{Span}
 use Rattle.mr_bytes.specs.declared.Value.{Value}
 use Rattle.mr_bytes.specs.declared.Value.TheVariants.{One, At}
 use Rattle.mr_input.specs.Files.{nth_file}
-use Rattle.mr_jobs.specs.JobSpec.{JobSpec, RequestSpec, WordCount, LinesWith, Resources, InvertedIndex, NthField, group_text_of}
+use Rattle.mr_jobs.specs.JobSpec.{JobSpec, RequestSpec, folds_words, group_text_of}
 use Rattle.mr_jobs.specs.declared.job.GroupText.{GroupText}
 use Rattle.mr_jobs.specs.declared.job.GroupText.TheVariants.{Count, Lines, Files}
-use Rattle.mr_jobs.specs.Emissions.{Emission, emissions, word_key, word_emission, one_for}
-use Rattle.mr_jobs.specs.Literal.{holds}
-use Rattle.mr_bytes.specs.Cut.{Lacks}
-use Rattle.mr_jobs.specs.Url.{IsRequestFor, url_of}
-use Rattle.mr_jobs.specs.Fields.{field_of}
-use Rattle.mr_jobs.proofs.FieldLemmas.{field_inside}
-use Rattle.mr_jobs.proofs.UrlLemmas.{url_by_parts}
+use Rattle.mr_jobs.specs.Emissions.{Emission, emissions, keys_of, value_at, value_for}
+use Rattle.mr_jobs.specs.Literal.{Holds}
+use Rattle.mr_jobs.proofs.KeyLemmas.{clear_key, keys_stand}
 use Rattle.mr_records.specs.Records.{Record, records}
 use Rattle.mr_records.proofs.LawLemmas.{no_line_feeds}
 use Rattle.mr_splits.specs.Belongs.{Belongs}
@@ -29,92 +23,21 @@ use Rattle.mr_splits.proofs.JoinedLemmas.{named-are-records}
 use Rattle.mr_splits.specs.Laws.{record_of}
 use Rattle.mr_bytes.specs.Pairs.{Triple}
 use Rattle.mr_sequential.specs.Emitted.{placed_from, record_triples, emitted}
-use Rattle.mr_bytes.proofs.ListLaws.{Has-all, Has-flat_map_from, Has-map}
+use Rattle.mr_bytes.proofs.ListLaws.{Has-all, Has-flat_map_from, Has-map, Has-map_from}
 use Rattle.mr_shards.specs.Outputs.{IsJudged}
 use Rattle.mr_shards.specs.Portions.{Portion}
-use Rattle.mr_shards.proofs.LineLemmas.{Lacks-front}
-
-Lacks-behind : (b : ℕ) (xs ys : List ℕ) → Lacks b (xs ++ ys) → Lacks b ys
-Lacks-behind b [] ys h = h
-Lacks-behind b (x ∷ xs) ys h = Lacks-behind b xs ys h.1
-
-Lacks-take : (b n : ℕ) (xs : List ℕ) → Lacks b xs → Lacks b (take n xs)
-Lacks-take b zero xs h = tt
-Lacks-take b (suc n) [] h = tt
-Lacks-take b (suc n) (x ∷ xs) h = (h.0, Lacks-take b n xs h.1)
-
-Lacks-drop : (b n : ℕ) (xs : List ℕ) → Lacks b xs → Lacks b (drop n xs)
-Lacks-drop b zero xs h = h
-Lacks-drop b (suc n) [] h = tt
-Lacks-drop b (suc n) (x ∷ xs) h = Lacks-drop b n xs h.1
-
--- folding makes no line feed
-fold-other : (b : ℕ) → b ≢ 10 → fold_byte b ≢ 10
-fold-other b ne = by (is_upper b)
-  where
-    by : (t : Bool) → cond t (b + 32) b ≢ 10
-    by true e = omega (arith, e)
-    by false e = ne e
-
-Lacks-folded : (xs : List ℕ) → Lacks 10 xs → Lacks 10 (folded xs)
-Lacks-folded [] h = tt
-Lacks-folded (x ∷ xs) h = (fold-other x h.0, Lacks-folded xs h.1)
-
-Lacks-word : (keep_case : Bool) (xs : List ℕ) → Lacks 10 xs → Lacks 10 (word_key keep_case xs)
-Lacks-word true xs h = h
-Lacks-word false xs h = Lacks-folded xs h
 
 -- ---- what a record emits
 
-abbrev pub IsValueOf : GroupText → ℕ → ℕ → Value → Type 0
-IsValueOf Count file start v = v ≡ One
-IsValueOf Lines file start v = v ≡ At file start
-IsValueOf Files file start v = v ≡ At file start
-
 pub record IsPairOf (form : GroupText) (file start : ℕ) (key : List ℕ) (value : Value) : Type 0 where
   pub clear : Lacks 10 key
-  pub value_is : IsValueOf form file start value
-
--- each word has a key without a line feed, and the value that all words of the line have
-words-pairs : (form : GroupText) (file start : ℕ) (value : Value) (keep_case : Bool) (line : List ℕ) (ws : List Span) (e : Emission) → Lacks 10 line
-    → IsValueOf form file start value → Has (map (word_emission value keep_case line) ws) e → IsPairOf form file start e.0 e.1
-words-pairs form file start value keep_case line [] e clear v h = absurd h
-words-pairs form file start value keep_case line (w ∷ ws) e clear v (inl is) =
-    let here : IsPairOf form file start (word_key keep_case (span_bytes line w)) value =
-    record { clear = Lacks-word keep_case (span_bytes line w) (Lacks-take 10 (w.end - w.start) (drop w.start line) (Lacks-drop 10 w.start line clear)); value_is = v } in
-    subst (λ (f : Emission). IsPairOf form file start f.0 f.1) is here
-words-pairs form file start value keep_case line (w ∷ ws) e clear v (inr h) = words-pairs form file start value keep_case line ws e clear v h
-
-url-clear : (line key : List ℕ) → Lacks 10 line → url_of line ≡ Some key → Lacks 10 key
-url-clear line key clear is =
-    let p : IsRequestFor line key = (url_by_parts line key).0 is in
-    let whole = subst (Lacks 10) p.line_is clear in
-    let request = Lacks-front 10 _ (34 ∷ p.rest) (Lacks-behind 10 p.front (34 ∷ _) whole).1 in
-    Lacks-front 10 key p.after (Lacks-behind 10 p.before (32 ∷ (key ++ p.after)) (subst (Lacks 10) p.request_is request)).1
-
-field-clear : (separator : Option ℕ) (number : ℕ) (line key : List ℕ) → Lacks 10 line → field_of separator number line ≡ Some key → Lacks 10 key
-field-clear separator number line key clear is =
-    let p = field_inside separator number line key is in
-    Lacks-front 10 key p.back (Lacks-behind 10 p.front (key ++ p.back) (subst (Lacks 10) p.line_is clear))
-
--- the one key of a job that counts
-pair-of-key : (file start : ℕ) (found : Option (List ℕ)) (e : Emission) → ((key : List ℕ) → found ≡ Some key → Lacks 10 key) → Has (one_for found) e → IsPairOf Count file start e.0 e.1
-pair-of-key file start None e clear none = absurd none
-pair-of-key file start (Some key) e clear (inl at) = subst (λ (f : Emission). IsPairOf Count file start f.0 f.1) at (record { clear = clear key refl; value_is = refl })
-pair-of-key file start (Some key) e clear (inr none) = absurd none
+  pub value_is : value ≡ value_for form file start
 
 emission-pairs : (job : JobSpec) (file start : ℕ) (line : List ℕ) (e : Emission) → Lacks 10 line → Has (emissions job file start line) e → IsPairOf (group_text_of job) file start e.0 e.1
-emission-pairs (WordCount keep_case) file start line e clear h = words-pairs Count file start One keep_case line (word_spans line) e clear refl h
-emission-pairs (LinesWith literal fold) file start line e clear h = by (holds fold line literal) h
-  where
-    by : (b : Bool) → Has (cond b ((line, At file start) ∷ []) []) e → IsPairOf Lines file start e.0 e.1
-    by true (inl is) = subst (λ (f : Emission). IsPairOf Lines file start f.0 f.1) is (record { clear = clear; value_is = refl })
-    by true (inr none) = absurd none
-    by false none = absurd none
-emission-pairs Resources file start line e clear h = pair-of-key file start (url_of line) e (λ key is. url-clear line key clear is) h
-emission-pairs (NthField separator number) file start line e clear h =
-    pair-of-key file start (field_of separator number line) e (λ key is. field-clear separator number line key clear is) h
-emission-pairs (InvertedIndex keep_case) file start line e clear h = words-pairs Files file start (At file start) keep_case line (word_spans line) e clear refl h
+emission-pairs job file start line e clear h =
+    let w = Has-map_from (λ key. (key, value_at job file start)) (keys_of job line) e h in
+    let stands = Has-all (Holds (folds_words job) line) (keys_of job line) w.0 (recursion_from_All (Holds (folds_words job) line) (keys_of job line) (keys_stand job line)) w.1 in
+    subst (λ (f : Emission). IsPairOf (group_text_of job) file start f.0 f.1) w.2 (record { clear = clear_key (folds_words job) line w.0 clear stands; value_is = refl })
 
 placed-from : (name : RecordName) (place : ℕ) (es : List Emission) (t : Triple) → Has (placed_from name place es) t → (e : Emission) × Has es e × (e.0 ≡ t.key) × (e.1 ≡ t.value)
 unfolding placed_from
@@ -168,7 +91,7 @@ pub record IsFinePair (form : GroupText) (t : Triple) : Type 0 where
   pub clear : Lacks 10 t.key
   pub value_is : IsCounted form t.value
 
-counted : (form : GroupText) (file start : ℕ) (v : Value) → file < 2 ^ 64 → start < 2 ^ 64 → IsValueOf form file start v → IsCounted form v
+counted : (form : GroupText) (file start : ℕ) (v : Value) → file < 2 ^ 64 → start < 2 ^ 64 → v ≡ value_for form file start → IsCounted form v
 counted Count file start v f s is = is
 counted Lines file start v f s is = (file, start, f, s, is)
 counted Files file start v f s is = (file, start, f, s, is)

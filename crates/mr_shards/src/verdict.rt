@@ -14,8 +14,8 @@
 ghost use Rattle.std.specs.Prelude.{◌≡◌, ◌↔◌, IfOk, IsTrue, MatchOption, ℕ, [], ◌∷◌, ◌++◌};
 ghost use Rattle.std.specs.Prelude.{◌==◌, OnOk, decimal, if◌then◌else◌, map};
 ghost use Rattle.mr_bytes.specs.declared.By.{By};
-ghost use Rattle.mr_jobs.specs.JobSpec.{RequestSpec, Resources};
-ghost use Rattle.mr_shards.specs.Truth.{Asks, AsksNone, CanBeMade, NamesJob, by_told, IsNoteOf};
+ghost use Rattle.mr_jobs.specs.JobSpec.{RequestSpec, Resources, flags_of, job_flags};
+ghost use Rattle.mr_shards.specs.Truth.{Asks, AsksNone, CanBeMade, by_told, IsNoteOf};
 ghost use Rattle.mr_shards.specs.Truth.{ends_line, note_for, range_for, ranges_for, verdict_for};
 ghost use Rattle.std.specs.List.{flat_map};
 ghost use Rattle.hex.specs.Hex.{encode_lower};
@@ -27,7 +27,7 @@ use crate::shift::Spot;
 use hex::encode_to_slice;
 use itoa::Buffer;
 use mr_input::Input;
-use mr_jobs::{Job, JobFault, Request};
+use mr_jobs::{Job, Request};
 use sha2::{Digest, Sha256};
 use std::alloc::{AllocError, Global};
 use std::marker::Model;
@@ -118,23 +118,11 @@ pub fn asks(verdict: &Verdict, request: &Request) -> bool
         && verdict.split == request.split_size()
 }
 
-/// The only job that the verdict may name.
-fn job_named(alloc: Global, verdict: &Verdict) -> Result<Option<Job>, AllocError>
-    ensures { IfOk result (λ r. MatchOption r
-        ((request : RequestSpec) → CanBeMade request → NamesJob verdict.now request → ⊥)
-        (λ j. (request : RequestSpec) → CanBeMade request → NamesJob verdict.now request → j ≡ request.job)) }
+/// The flags of a request's job, by those of the request.
+fn flags_of_job(flags: u32) -> u32
+    ensures { (request : RequestSpec) → CanBeMade request → flags ≡ flags_of request → result ≡ job_flags request.job }
 {
-    match verdict.job {
-        1 => Ok(Some(Job::words(verdict.flags == 1))),
-        2 => match Job::grep(alloc, verdict.literal.as_slice(), verdict.flags == 2) {
-            Ok(job) => Ok(Some(job)),
-            Err(JobFault::OutOfMemory) => Err(AllocError),
-            Err(_) => Ok(None),
-        },
-        4 => Ok(Some(Job::index(verdict.flags == 1))),
-        5 => Job::field_named(alloc, verdict.literal.as_slice()),
-        _ => Ok(Some(Job::url())),
-    }
+    if flags == 4 { 0 } else { flags }
 }
 
 /// The request, by host if the flags say so; none if its keys have no host.
@@ -154,7 +142,8 @@ fn by_named(request: Request, verdict: &Verdict) -> Option<Request>
 pub fn request_of(alloc: Global, verdict: &Verdict) -> Result<Option<Request>, AllocError>
     ensures { IfOk result (λ r. MatchOption r (AsksNone verdict.now) (λ q. Asks verdict.now q)) }
 {
-    let Some(job) = job_named(alloc, verdict)? else {
+    let flags = flags_of_job(verdict.flags);
+    let Some(job) = Job::named(alloc, verdict.job, flags, verdict.literal.as_slice())? else {
         return Ok(None);
     };
     let Ok(request) = Request::new(job, verdict.parts, verdict.split, 0) else {

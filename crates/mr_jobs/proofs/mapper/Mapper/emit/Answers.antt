@@ -7,7 +7,7 @@ use Rattle.mr_jobs.specs.JobSpec.{JobSpec, ReadsWords}
 use Rattle.mr_jobs.specs.Pieces.{read_as}
 use Rattle.mr_jobs.specs.Hits.{Source}
 use Rattle.mr_jobs.specs.Views.{spec_of}
-use Rattle.mr_jobs.proofs.PieceLemmas.{reads-emitted}
+use Rattle.mr_jobs.proofs.EmitLemmas.{reads-emitted}
 use Rattle.mr_jobs.proofs.mapper.Mapper.emit.Goals as goal
 
 pub returns-in-Words : goal.returns-in-Words
