@@ -145,15 +145,15 @@ clear_at : (fold : Bool) (line key : List ℕ) (place : ℕ) → Lacks 10 line �
 clear_at fold line [] place clear at = tt
 clear_at fold line (x ∷ xs) place clear at = (
   (λ e.
-  Lacks-at line (place + 0) clear (omega (arith, at.fits))
-  (folds_from fold (get_or line (place + 0) 0) (at.reads 0 (omega arith) ∙ (ap (compared fold) e ∙ line_feed fold)))),
+      Lacks-at line (place + 0) clear (omega (arith, at.fits))
+      (folds_from fold (get_or line (place + 0) 0) (at.reads 0 (omega arith) ∙ (ap (compared fold) e ∙ line_feed fold)))),
   clear_at fold line xs (place + 1) clear
-  (record {
-    fits = omega (arith, at.fits);
-    reads = λ j less.
-        let next : place + 1 + j ≡ place + suc j = omega arith in
-        ap (λ k. compared fold (get_or line k 0)) next ∙ at.reads (suc j) (omega (arith, less));
-  }),
+      (record {
+        fits = omega (arith, at.fits);
+        reads = λ j less.
+            let next : place + 1 + j ≡ place + suc j = omega arith in
+            ap (λ k. compared fold (get_or line k 0)) next ∙ at.reads (suc j) (omega (arith, less));
+      }),
 )
 
 pub clear_key : (fold : Bool) (line key : List ℕ) → Lacks 10 line → Holds fold line key → Lacks 10 key
