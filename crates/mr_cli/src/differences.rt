@@ -1,4 +1,5 @@
 //! How a certificate differs from the request, if the judge reports another job or input.
+use crate::table::JOBS;
 use mr_args::{Options, request_of};
 use mr_certform::{Item, Walker};
 use mr_files::{Inspect, PathKind, Store, certificate_name, read_file};
@@ -64,17 +65,6 @@ fn front_of(alloc: Global, bytes: &[u8]) -> Result<Front, AllocError> {
     Ok(front)
 }
 
-fn job_name(number: u32) -> &'static str {
-    match number {
-        1 => "words",
-        2 => "grep",
-        3 => "url",
-        4 => "index",
-        5 => "field",
-        _ => "(no such job)",
-    }
-}
-
 fn add_where(text: &mut String, holds: bool, word: &str) -> Result<(), AllocError> {
     if holds {
         write!(text, " {word}")?;
@@ -100,7 +90,8 @@ fn add_field(text: &mut String, literal: &str) -> Result<(), AllocError> {
 }
 
 fn add_options(text: &mut String, front: &Front) -> Result<(), AllocError> {
-    let job = job_name(front.job);
+    let job = JOBS.get((front.job as usize).wrapping_sub(1));
+    let job = job.copied().unwrap_or("(no such job)");
     write!(text, " --job {job}")?;
     let literal = str::from_utf8(front.literal.as_slice()).unwrap_or("(bytes that are not UTF-8)");
     match front.job {

@@ -46,7 +46,7 @@ pub fn letter_of(asked: &Subcommand<'_>) -> char {
 fn evidence_row(asked: &ExplainOptions<'_>, status: u8) -> &'static str {
     let folds = match asked.options.job {
         JobKind::Words | JobKind::Index => !asked.options.keep_case,
-        JobKind::Grep | JobKind::Url | JobKind::Field => false,
+        _ => false,
     };
     let key = asked.key.unwrap_or("");
     if folds && key.bytes().any(|byte| byte.is_ascii_uppercase()) {

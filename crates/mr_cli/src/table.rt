@@ -180,6 +180,7 @@ pub const NOTES: [&str; 1] = [
     "srm | With --fresh the result is in DIR whole or not at all. It is written to a new directory beside DIR, .DIR.fresh-N, which takes DIR's name and place at the end. Where the command fails or nothing is certified, DIR is as it was. Only a command that is killed can leave the directory beside.",
 ];
 
+/// The names of the jobs, in the order of their numbers from 1.
 pub const JOBS: [&str; 5] = ["words", "grep", "url", "index", "field"];
 
 pub const HINTS: [&str; 3] = ["auto", "always", "never"];
