@@ -1,9 +1,9 @@
 -- What flags tell.
-use Rattle.std.proofs.Common.{◌≡◌, ◌+◌, ◌<◌, cond, refl, ap, arith}
+use Rattle.std.proofs.Common.{◌≡◌, ◌+◌, cond, refl, ap, arith}
 use Rattle.std.proofs.lemmas.Bool.{ne_eqb}
 use Rattle.mr_bytes.specs.declared.By.{By}
 use Rattle.mr_bytes.specs.declared.By.TheVariants.{Host, Key}
-use Rattle.mr_jobs.specs.JobSpec.{ByFits, JobSpec, Resources, by_flag, job_flags}
+use Rattle.mr_jobs.specs.JobSpec.{ByFits, JobSpec, by_flag, job_flags}
 use Rattle.mr_jobs.proofs.NameLemmas.{flags_below}
 use Rattle.mr_shards.specs.Truth.{by_told}
 

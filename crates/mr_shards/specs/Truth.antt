@@ -85,10 +85,6 @@ verdict_for request inputs outputs left_out pairs = record {
 
 -- ---- the request that a verdict is about
 
--- the verdict names the request's job
-abbrev pub NamesJob : Told → RequestSpec → Type 0
-NamesJob v request = (v.job ≡ job_number request.job) × (v.flags ≡ flags_of request) × (v.literal ≡ job_literal request.job)
-
 -- what chooses the partitions of the request that has these flags
 abbrev pub by_told : ℕ → By
 by_told flags = if flags == 4 then Host else Key

@@ -1,4 +1,4 @@
-use Rattle.std.proofs.Common.{◌<◌, ◌≤◌, ◌^◌, ◌≡◌, ℕ, Bool, eqb, false, get_or, length, map, take, w64, arith}
+use Rattle.std.proofs.Common.{◌<◌, ℕ, Bool, eqb, false, get_or, map, take, w64, arith}
 use Rattle.std.proofs.lemmas.Nat.Bits.{bit_at-trailing_zeros}
 use lib.Count.{count_trailing_zeros}
 use Rattle.mr_lanes.proofs.RestLemmas.{First, all_rest, first}

@@ -1,4 +1,4 @@
-use Rattle.std.proofs.Common.{◌∙◌, ◌*◌, ◌-◌, ◌/◌, ◌%◌, ◌^◌, ap, arith, length}
+use Rattle.std.proofs.Common.{◌∙◌, ◌*◌, ◌-◌, ◌/◌, ◌%◌, ◌^◌, ap, arith}
 use Rattle.mr_shards.proofs.FrontCutLemmas.{front-cut}
 use Rattle.mr_shards.proofs.line.front_in.Goals as goal
 
