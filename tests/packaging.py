@@ -6,6 +6,7 @@ import shutil
 import subprocess
 
 from harness import TOP
+from plain import JOBS
 
 OWN = ("install", "package", "packaging/layout.sh", "packaging/start.sh", "packaging/mapred", "packaging/pages.py")
 INSTALLED = [
@@ -69,7 +70,7 @@ def completed(harness):
     os.mkdir(os.path.join(top, "counts"))
     rows = [
         (["se"], ["seq"]),
-        (["seq", "--job", ""], ["words", "grep", "url", "index", "field"]),
+        (["seq", "--job", ""], list(JOBS)),
         (["seq", "--spl"], ["--split"]),
         (["run", "--his"], ["--history"]),
         (["check", "--out", "cou"], ["counts"]),

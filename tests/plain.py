@@ -33,7 +33,11 @@ class Request:
     separator: bytes = b""
 
     def options(self):
-        words = ["--job", self.job, "--parts", str(self.parts), "--split", str(self.split)]
+        return [*self.own_options(), "--parts", str(self.parts), "--split", str(self.split), "--max-skips", str(self.most)]
+
+    def own_options(self):
+        """The job, and the options that belong to it."""
+        words = ["--job", self.job]
         if self.keep:
             words.append("--keep-case")
         if self.job == "grep":
@@ -46,7 +50,7 @@ class Request:
             words += ["--field", str(self.number)]
             if self.separator:
                 words.append("--separator=" + ("\\t" if self.separator == b"\t" else self.separator.decode()))
-        return [*words, "--max-skips", str(self.most)]
+        return words
 
     def flags(self):
         return 1 * self.keep + 2 * self.fold + 4 * self.by_host
@@ -54,6 +58,22 @@ class Request:
     def name(self):
         """What the certificate has for a literal."""
         return self.separator + b"%d" % self.number if self.job == "field" else self.literal
+
+
+def any_request(rnd, job):
+    """A request of the job, with options of its own that are drawn."""
+    request = Request(job)
+    if job in ("words", "index"):
+        request.keep = rnd.random() < 0.3
+    if job == "grep":
+        request.literal = rnd.choice(["the", "a", "THE", "ü", " ", "42", "-"]).encode()
+        request.fold = rnd.random() < 0.5
+    if job == "url":
+        request.by_host = rnd.random() < 0.5
+    if job == "field":
+        request.number = rnd.choice([1, 1, 2, 3, 7, 65535])
+        request.separator = rnd.choice([b"", b"", b" ", b"\t", b":", b"e", b"\r"])
+    return request
 
 
 def fnv(key):

@@ -13,7 +13,7 @@ from concurrent.futures import ThreadPoolExecutor
 from failing import shim
 from judging import section_borders
 from libraries import built
-from plain import Request, in_version_2, named_records, produced
+from plain import JOBS, Request, any_request, in_version_2, named_records, produced
 from scripts import Allowed, drawn, misstep, written
 
 TOP = os.path.dirname(os.path.dirname(os.path.abspath(__file__)))
@@ -324,17 +324,17 @@ def many_pairs(harness):
 
 # The jobs whose runs are told by the program `mr_pool_tests`, and those of all runs.
 TOLD_JOBS = ["words", "words", "grep", "url"]
-ALL_JOBS = [*TOLD_JOBS, "index", "index", "field"]
+ALL_JOBS = [*TOLD_JOBS, *JOBS]
 
 
 def random_case(start, jobs=ALL_JOBS):
     """What a number draws: a request of one of the jobs, its files, the lines of a script, workers, attempts."""
     rnd = random.Random(start)
     job = rnd.choice(jobs)
-    literal = b"aB" if job == "grep" else b""
-    request = Request(job, rnd.randint(1, 4), rnd.choice([3, 8, 20, 1000]), job in ("words", "index") and rnd.random() < 0.3, literal, job == "grep", rnd.choice([0, 1, 2, 5]))
-    if job == "field":
-        request.number, request.separator = rnd.choice([(1, b""), (2, b""), (1, b" "), (2, b"a")])
+    request = any_request(rnd, job)
+    if jobs is TOLD_JOBS:
+        request.fold, request.by_host = job == "grep", False
+    request.parts, request.split, request.most = rnd.randint(1, 4), rnd.choice([3, 8, 20, 1000]), rnd.choice([0, 1, 2, 5])
     line = lambda: rnd.choice([b"a Ab c", b"AB", b"", b"xaby the x", b'h "GET /%d x" 1' % rnd.randint(0, 3), b"b b"])
     files = [b"\n".join(line() for _ in range(rnd.randint(0, 9))) + rnd.choice([b"", b"\n"]) for _ in range(rnd.randint(0, 3))]
     splits = sum((len(data) + request.split - 1) // request.split for data in files)

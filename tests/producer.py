@@ -4,7 +4,7 @@ import subprocess
 import sys
 
 from harness import random_log, random_text, read_result, seeded, write_result
-from plain import JOBS, Request, judged, named_records, produced
+from plain import JOBS, any_request, judged, named_records, produced
 
 SPLITS = [1, 3, 16, 100, 67108864]
 
@@ -12,21 +12,12 @@ SPLITS = [1, 3, 16, 100, 67108864]
 def random_job(rnd, jobs=tuple(JOBS)):
     """A request of one of the jobs, files, and records to leave out of them."""
     job = rnd.choice(jobs)
-    if job == "url" or (job == "field" and rnd.random() < 0.3):
+    if job == "url" or rnd.random() < 0.1:
         files = [random_log(rnd, rnd.randint(0, 40)) for _ in range(rnd.randint(0, 3))]
     else:
         files = [random_text(rnd, rnd.choice([0, 1, 50, 1500])) for _ in range(rnd.randint(0, 4))]
-    request = Request(job, rnd.choice([1, 2, 3, 7]), rnd.choice(SPLITS))
-    if job in ("words", "index"):
-        request.keep = rnd.random() < 0.3
-    if job == "grep":
-        request.literal = rnd.choice(["the", "a", "THE", "ü", " ", "42", "-"]).encode()
-        request.fold = rnd.random() < 0.5
-    if job == "url":
-        request.by_host = rnd.random() < 0.5
-    if job == "field":
-        request.number = rnd.choice([1, 1, 2, 3, 7, 65535])
-        request.separator = rnd.choice([b"", b"", b" ", b"\t", b":", b"e", b"\r"])
+    request = any_request(rnd, job)
+    request.parts, request.split = rnd.choice([1, 2, 3, 7]), rnd.choice(SPLITS)
     names = [name for name, *_ in named_records(files, request.split)]
     skips = sorted(rnd.sample(names, min(len(names), rnd.choice([0, 0, 0, 1, 5]))))
     request.most = len(skips) + rnd.choice([0, 0, 3])

@@ -11,6 +11,7 @@ import sys
 import time
 
 from harness import TOP, parts_of, seeded
+from plain import JOBS, any_request
 
 RUNNER = os.path.join(TOP, "engines", "shards.py")
 WORDS = ["--job", "words", "--parts", "3"]
@@ -84,8 +85,8 @@ def by_seq(harness, job, files):
 def runner(harness):
     """Each job is that of one execution, also where each shard is lost once; what is done again, and what is not."""
     given = some_files()
-    for job in (["words", "--keep-case"], ["grep", "--literal", "cat a"], ["url"], ["index"], ["field", "--field", "2"]):
-        job = ["--job", *job, "--parts", "2"]
+    for name in JOBS:
+        job = [*any_request(seeded("runner's jobs"), name).own_options(), "--parts", "2"]
         where = harness.directory(given)
         got = by_runner(harness.program, [*job, "--shard-size", "500", *given], where)
         harness.check(f"a runner's {job[1]}", got[0] == 0 and judged(got[2]) > 7 and is_whole(where, by_seq(harness, job, given)), repr(got))
