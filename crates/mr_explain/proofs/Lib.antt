@@ -5,7 +5,7 @@ pub mod LawLemmas
 pub mod LeftOutLemmas
 pub mod LineLemmas
 pub mod NameLemmas
-pub mod PieceLemmas
+pub mod WrittenLemmas
 pub mod SieveLemmas
 pub mod SiftingLaws
 pub mod TakingLemmas

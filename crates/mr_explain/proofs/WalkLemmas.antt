@@ -1,22 +1,22 @@
 -- A walk over records, one after another.
 use Rattle.std.proofs.Common.{◌≡◌, ℕ, ◌+◌, ◌&&◌, Bool, true, false, cond, ltb, List, [], ◌∷◌, ◌++◌, length, take, refl, ap, sym, ◌∙◌, subst, arith, inl, inr, length-append}
-use Rattle.std.proofs.lemmas.Bool.{cases_lt, lt-ltb, le-ltb}
+use Rattle.std.proofs.lemmas.Bool.{cases_lt, lt-ltb, le-ltb, ne_eqb}
 use Rattle.std.proofs.lemmas.List.{append-nil, take-append-le, take_all}
 use Rattle.std.proofs.lemmas.List.Concat.{flat_map-append}
 use Rattle.std.proofs.lemmas.List.Elements.{filter-append}
 use Rattle.std.proofs.lemmas.List.Sums.{sum_by_push}
-use Rattle.std.proofs.Common.{eqb, eqb-true}
+use Rattle.std.proofs.Common.{eqb}
 use Rattle.std.specs.Prelude.{codes}
 use Rattle.std.specs.List.{flat_map}
-use Rattle.mr_store.specs.Devices.{Seen}
+use Rattle.mr_store.specs.Devices.{Seen, with_bytes}
 use Rattle.mr_jobs.specs.JobSpec.{JobSpec}
 use Rattle.mr_splits.specs.Named.{NamedRecord}
 use Rattle.mr_explain.specs.Explained.{evidence, is_wanted, left_out_of, left_out_text, line_at, listing, pair_total, pairs_of, summary_line, summary_of, value_count}
-use Rattle.mr_explain.specs.Walking.{AreCounts, Counts, HasWalked, Passes, printed}
+use Rattle.mr_explain.specs.Walking.{AreCounts, Counts, HasWalked, printed}
 use Rattle.mr_explain.specs.declared.query.Query.{Query}
 use Rattle.mr_explain.specs.declared.query.Totals.{Totals}
 use Rattle.mr_explain.specs.declared.query.Wanted.{Wanted}
-use Rattle.mr_explain.proofs.PieceLemmas.{passes_joined, passes_none}
+use Rattle.mr_explain.proofs.WrittenLemmas.{nothing_written, written}
 
 evidence-more : (job : JobSpec) (wanted : Wanted) (done : List NamedRecord) (r : NamedRecord)
     → evidence job wanted (done ++ r ∷ []) ≡ evidence job wanted done ++ cond (is_wanted wanted (pairs_of job r)) (r ∷ []) []
@@ -66,25 +66,25 @@ listing-more q prefix done r =
     ∙ flat_map-append text (take q.limit found) (cond (t && ltb (length found) q.limit) (r ∷ []) [])
     ∙ ap (λ (l : List ℕ). flat_map text (take q.limit found) ++ l) (one-text text (t && ltb (length found) q.limit) r)
 
-module _ (q : Query) (prefix : List ℕ) (start : Seen) (held : List ℕ) where
-  pub walked_none : (totals : Totals) → totals ≡ record { pairs = 0; records = 0 } → HasWalked q prefix [] totals start held start held
+module _ (q : Query) (prefix : List ℕ) (start : Seen) where
+  pub walked_none : (totals : Totals) → totals ≡ record { pairs = 0; records = 0 } → HasWalked q prefix [] totals start start
   walked_none totals none = record {
     counts = record { pairs = ap (λ (t : Totals). t.pairs) none; records = ap (λ (t : Totals). t.records) none };
-    put = subst (Passes start held start held) (nothing q.limit) (passes_none start held);
+    put = subst (λ l. start ≡ with_bytes start l) (nothing q.limit) (nothing_written start);
   }
     where
       nothing : (n : ℕ) → [] ≡ flat_map (λ (x : NamedRecord). prefix ++ line_at q.sources.now q.plan.now.files x.file x.start x.bytes) (take n [])
       nothing n = sym (ap (flat_map (λ (x : NamedRecord). prefix ++ line_at q.sources.now q.plan.now.files x.file x.start x.bytes)) (take_all n [] (omega arith)))
 
-  pub walked_more : (done : List NamedRecord) (r : NamedRecord) (old new : Totals) (mid : Seen) (m : List ℕ) (last : Seen) (n : List ℕ)
-      → HasWalked q prefix done old start held mid m → Counts q.wanted (pairs_of q.job.now r) old new
-      → Passes mid m last n (printed q prefix old.records r.file r.start r.bytes)
-      → HasWalked q prefix (done ++ r ∷ []) new start held last n
-  walked_more done r old new mid m last n walked more put = record {
+  pub walked_more : (done : List NamedRecord) (r : NamedRecord) (old new : Totals) (mid last : Seen)
+      → HasWalked q prefix done old start mid → Counts q.wanted (pairs_of q.job.now r) old new
+      → last ≡ with_bytes mid (printed q prefix old.records r.file r.start r.bytes)
+      → HasWalked q prefix (done ++ r ∷ []) new start last
+  walked_more done r old new mid last walked more put = record {
     counts = counts-more q.job.now q.wanted done r old new walked.counts more;
-    put = subst (Passes start held last n)
-        (ap (λ k. listing q prefix done ++ printed q prefix k r.file r.start r.bytes) walked.counts.records ∙ sym (listing-more q prefix done r))
-        (passes_joined start mid last held m n (listing q prefix done) (printed q prefix old.records r.file r.start r.bytes) walked.put put);
+    put = written start mid last (listing q prefix done) (printed q prefix old.records r.file r.start r.bytes) walked.put put
+        ∙ ap (with_bytes start)
+        (ap (λ k. listing q prefix done ++ printed q prefix k r.file r.start r.bytes) walked.counts.records ∙ sym (listing-more q prefix done r));
   }
 
 -- ---- summaries
@@ -94,26 +94,22 @@ pub summary-is : (job : JobSpec) (wanted : Wanted) (label : List ℕ) (rs : List
 summary-is job wanted label rs t are =
     ap (λ n. summary_line label n t.records) are.pairs ∙ ap (λ n. summary_line label (pair_total job wanted rs) n) are.records
 
-no_text : (f : NamedRecord → List ℕ) (limit : ℕ) (found : List NamedRecord) → eqb (length found) 0 ≡ true → flat_map f (take limit found) ≡ []
+no_text : (f : NamedRecord → List ℕ) (limit : ℕ) (found : List NamedRecord) → length found ≡ 0 → flat_map f (take limit found) ≡ []
 no_text f limit [] e = ap (flat_map f) (take_all limit [] (omega arith))
-no_text f limit (r ∷ rs) e = let size : length (r ∷ rs) ≡ 0 = eqb-true (length (r ∷ rs)) 0 e in absurd (omega (arith, size))
+no_text f limit (r ∷ rs) e = absurd (omega (arith, e))
 
-pub left-text : (q : Query) (t : Totals) → AreCounts q.job.now q.wanted (left_out_of q) t
-    → listing q (codes "left out:") (left_out_of q) ++ cond (eqb t.records 0) [] (summary_line (codes "left out") t.pairs t.records) ≡ left_out_text q
-left-text q t are =
-    ap (λ n. text ++ cond (eqb n 0) [] (summary_line (codes "left out") t.pairs t.records)) are.records
-    ∙ by (eqb count 0) refl
-  where
-    text : List ℕ
-    text = listing q (codes "left out:") (left_out_of q)
+module _ (q : Query) (t : Totals) (are : AreCounts q.job.now q.wanted (left_out_of q) t) where
+  -- where none of them is looked for, nothing is printed of the left-out records
+  pub none_left_out : t.records ≡ 0 → listing q (codes "left out:") (left_out_of q) ≡ left_out_text q
+  none_left_out none =
+      let found : List NamedRecord = evidence q.job.now q.wanted (left_out_of q) in
+      let count : length found ≡ 0 = sym are.records ∙ none in
+      no_text (λ (r : NamedRecord). codes "left out:" ++ line_at q.sources.now q.plan.now.files r.file r.start r.bytes) q.limit found count
+      ∙ sym (ap (λ n. cond (eqb n 0) [] (listing q (codes "left out:") (left_out_of q) ++ summary_of q.job.now q.wanted (codes "left out") (left_out_of q))) count)
 
-    count : ℕ
-    count = length (evidence q.job.now q.wanted (left_out_of q))
-
-    by : (b : Bool) → eqb count 0 ≡ b
-        → text ++ cond b [] (summary_line (codes "left out") t.pairs t.records)
-        ≡ cond b [] (text ++ summary_of q.job.now q.wanted (codes "left out") (left_out_of q))
-    by true e =
-        append-nil text
-        ∙ no_text (λ (r : NamedRecord). codes "left out:" ++ line_at q.sources.now q.plan.now.files r.file r.start r.bytes) q.limit (evidence q.job.now q.wanted (left_out_of q)) e
-    by false e = ap (λ (l : List ℕ). text ++ l) (summary-is q.job.now q.wanted (codes "left out") (left_out_of q) t are)
+  pub some_left_out : (t.records ≡ 0 → ⊥)
+      → listing q (codes "left out:") (left_out_of q) ++ summary_line (codes "left out") t.pairs t.records ≡ left_out_text q
+  some_left_out some =
+      let text : List ℕ = listing q (codes "left out:") (left_out_of q) in
+      ap (λ l. text ++ l) (summary-is q.job.now q.wanted (codes "left out") (left_out_of q) t are)
+      ∙ sym (ap (λ b. cond b [] (text ++ summary_of q.job.now q.wanted (codes "left out") (left_out_of q))) (ne_eqb (length (evidence q.job.now q.wanted (left_out_of q))) 0 (λ e. some (are.records ∙ e))))

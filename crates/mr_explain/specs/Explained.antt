@@ -91,6 +91,10 @@ kept_of q = kept_records q.skips.now (records_of q.plan.now)
 abbrev pub left_out_of : Query → List NamedRecord
 left_out_of q = filter_map (record_named (records_of q.plan.now)) q.skips.now
 
+-- the kept records that are looked for, and how many
+abbrev pub kept_text : Query → List ℕ
+kept_text q = listing q [] (kept_of q) ++ summary_of q.job.now q.wanted (label_of q.wanted) (kept_of q)
+
 -- the left-out records that are looked for, and how many; nothing where there are none
 abbrev pub left_out_text : Query → List ℕ
 left_out_text q =
@@ -100,8 +104,7 @@ left_out_text q =
 
 -- all that is printed
 abbrev pub explanation : Query → List ℕ
-explanation q =
-    listing q [] (kept_of q) ++ summary_of q.job.now q.wanted (label_of q.wanted) (kept_of q) ++ left_out_text q
+explanation q = kept_text q ++ left_out_text q
 
 -- why printing stopped: at `Device`, just one more call of the writer has failed
 abbrev pub IsCutOff : Seen → Seen → ExplainFault → Type 0

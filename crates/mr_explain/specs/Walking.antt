@@ -13,12 +13,6 @@ use Rattle.mr_explain.specs.declared.query.Totals.{Totals}
 use Rattle.mr_explain.specs.declared.query.Wanted.{Wanted}
 use Rattle.mr_explain.specs.declared.query.Wanted.TheVariants.{Key, Nothing}
 
--- a writer and a buffer took the bytes: some are written, and the buffer has the others
-pub record Passes (old : Seen) (held : List ℕ) (new : Seen) (holds : List ℕ) (bytes : List ℕ) : Type 0 where
-  pub sent : List ℕ
-  pub written : new ≡ with_bytes old sent
-  pub kept : held ++ bytes ≡ sent ++ holds
-
 -- the count is that of a place of its file
 pub record IsCounted (files : List (List ℕ)) (c : LineCount) : Type 0 where
   pub within : c.at ≤ length (nth_file files c.file)
@@ -56,7 +50,7 @@ printed q prefix before file start bytes =
     then prefix ++ line_at q.sources.now q.plan.now.files file start bytes
     else []
 
--- a walk over these records: their counts, and what a writer and a buffer took
-pub record HasWalked (q : Query) (prefix : List ℕ) (rs : List NamedRecord) (totals : Totals) (old : Seen) (held : List ℕ) (new : Seen) (holds : List ℕ) : Type 0 where
+-- a walk over these records: their counts, and what a writer took
+pub record HasWalked (q : Query) (prefix : List ℕ) (rs : List NamedRecord) (totals : Totals) (old new : Seen) : Type 0 where
   pub counts : AreCounts q.job.now q.wanted rs totals
-  pub put : Passes old held new holds (listing q prefix rs)
+  pub put : new ≡ with_bytes old (listing q prefix rs)

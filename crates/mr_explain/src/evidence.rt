@@ -11,60 +11,53 @@ ghost use Rattle.mr_splits.specs.Cut.{record_named, records_of};
 ghost use Rattle.mr_splits.specs.Named.{NamedRecord};
 ghost use Rattle.mr_splits.specs.Kept.{kept_records};
 ghost use Rattle.mr_store.specs.Devices.{Seen, with_bytes};
-ghost use Rattle.mr_explain.specs.Explained.{IsCutOff, explanation, kept_of, left_out_of, line_at};
+ghost use Rattle.mr_explain.specs.Explained.{IsCutOff, explanation, kept_of, kept_text, left_out_of};
 ghost use Rattle.mr_explain.specs.Explained.{label_of as the_label};
-ghost use Rattle.mr_explain.specs.Explained.{summary_line};
+ghost use Rattle.mr_explain.specs.Explained.{left_out_text, line_at, summary_line};
 ghost use Rattle.mr_explain.specs.Group.{ForKey, group_values};
-ghost use Rattle.mr_explain.specs.Walking.{AreCounts, AreReady, Counts, HasWalked, IsCounted};
-ghost use Rattle.mr_explain.specs.Walking.{IsSieve, Passes, printed};
+ghost use Rattle.mr_explain.specs.Walking.{AreCounts, AreReady, Counts, IsCounted};
+ghost use Rattle.mr_explain.specs.Walking.{IsSieve, printed};
 
 use crate::counting::count_wanted;
 use crate::lines::{LineCount, put_head, put_number};
-use crate::piece::{put, send};
 use crate::query::{ExplainFault, Explained, Query, Totals, Wanted};
 use crate::sieve::sieve_of;
-use mr_bytes::RecordName;
 use mr_jobs::{Job, Mapper};
 use mr_splits::{KeptPlan, RecordAt};
-use mr_store::CountedWrite;
+use mr_store::{CountedWrite, write_all};
 use std::alloc::{AllocError, Global};
 
-/// What a walk over records maps them by, has counted, and has not written yet.
+/// What a walk over records maps them by, and has counted.
 #[derive(Drop)]
 struct Walk<'j, 's, 'i> {
     mapper: Mapper<'j, 'i>,
     sieve: Mapper<'s, 'i>,
     totals: Totals,
     lines: LineCount,
-    piece: Vec<u8>,
 }
 
 fn print_record<W: CountedWrite>(
     query: &Query<'_>,
     prefix: &[u8],
-    walk: &mut Walk<'_, '_, '_>,
+    lines: &mut LineCount,
     line: RecordAt<'_>,
     writer: &mut W,
 ) -> Result<(), ExplainFault>
     requires line { IsLine query.now.plan.now.files line.file line.start line.bytes.now }
     requires one_each { length query.now.sources.now ≡ length query.now.plan.now.files }
-    requires counted { IsCounted query.now.plan.now.files walk.old.lines }
-    ensures mappers { (walk.new.mapper ≡ walk.old.mapper) × (walk.new.sieve ≡ walk.old.sieve) }
-    ensures totals { walk.new.totals ≡ walk.old.totals }
-    ensures counted { OnOk result (IsCounted query.now.plan.now.files walk.new.lines) }
-    ensures put { OnOk result (Passes (W.seen writer.old) walk.old.piece.items
-        (W.seen writer.new) walk.new.piece.items
+    requires counted { IsCounted query.now.plan.now.files lines.old }
+    ensures counted { OnOk result (IsCounted query.now.plan.now.files lines.new) }
+    ensures put { OnOk result (W.seen writer.new ≡ with_bytes (W.seen writer.old)
         (prefix.now ++ line_at query.now.sources.now query.now.plan.now.files
         line.entry.file line.entry.start line.entry.bytes.now)) }
     ensures cut { IfErr result (IsCutOff (W.seen writer.old) (W.seen writer.new)) }
 {
-    let start = line.start as usize;
-    let feeds = walk.lines.before(query.plan.input(), line.file, start);
-    let source = query.sources[line.file as usize];
-    put(writer, &mut walk.piece, prefix)?;
-    put_head(source, feeds, line.start, &mut walk.piece)?;
-    put(writer, &mut walk.piece, line.bytes)?;
-    put(writer, &mut walk.piece, b"\n")
+    let feeds = lines.before(query.plan.input(), line.file, line.start as usize);
+    write_all(writer, prefix)?;
+    put_head(query.sources[line.file as usize], feeds, line.start, writer)?;
+    write_all(writer, line.bytes)?;
+    write_all(writer, b"\n")?;
+    Ok(())
 }
 
 /// Counts the record, and prints it, if it is looked for.
@@ -87,9 +80,9 @@ fn take_record<W: CountedWrite>(
     ensures counts { OnOk result (Counts query.now.wanted
         (emissions query.now.job.now line.entry.file line.entry.start line.entry.bytes.now)
         walk.old.totals walk.new.totals) }
-    ensures few { OnOk result (walk.new.totals.pairs ≤ walk.old.totals.pairs + 2 ^ 31) }
-    ensures put { OnOk result (Passes (W.seen writer.old) walk.old.piece.items
-        (W.seen writer.new) walk.new.piece.items
+    ensures few { OnOk result ((walk.new.totals.pairs ≤ walk.old.totals.pairs + 2 ^ 31)
+        × (walk.new.totals.records ≤ walk.old.totals.records + 1)) }
+    ensures put { OnOk result (W.seen writer.new ≡ with_bytes (W.seen writer.old)
         (printed query.now prefix.now walk.old.totals.records
         line.entry.file line.entry.start line.entry.bytes.now)) }
     ensures cut { IfErr result (IsCutOff (W.seen writer.old) (W.seen writer.new)) }
@@ -106,12 +99,12 @@ fn take_record<W: CountedWrite>(
         records: records + 1,
     };
     if records < query.limit {
-        return print_record(query, prefix, walk, line, writer);
+        return print_record(query, prefix, &mut walk.lines, line, writer);
     }
     Ok(())
 }
 
-/// Walks over the records that the job reads, from the first one on.
+/// Walks over the records that the job reads, and prints their summary.
 fn walk_kept<W: CountedWrite>(
     query: &Query<'_>,
     kept: &KeptPlan<'_>,
@@ -126,8 +119,10 @@ fn walk_kept<W: CountedWrite>(
     ensures mappers { OnOk result ((walk.new.mapper ≡ walk.old.mapper)
         × (walk.new.sieve ≡ walk.old.sieve)) }
     ensures counted { OnOk result (IsCounted query.now.plan.now.files walk.new.lines) }
-    ensures walked { OnOk result (HasWalked query.now [] (kept_of query.now) walk.new.totals
-        (W.seen writer.old) walk.old.piece.items (W.seen writer.new) walk.new.piece.items) }
+    ensures counts { OnOk result
+        (AreCounts query.now.job.now query.now.wanted (kept_of query.now) walk.new.totals) }
+    ensures put { OnOk result
+        (W.seen writer.new ≡ with_bytes (W.seen writer.old) (kept_text query.now)) }
     ensures cut { IfErr result (IsCutOff (W.seen writer.old) (W.seen writer.new)) }
 {
     // An input has far fewer records than a count can tell.
@@ -136,42 +131,11 @@ fn walk_kept<W: CountedWrite>(
     while let Some((_, line)) = left.next() {
         take_record(query, b"", walk, line, writer)?;
     }
-    Ok(())
+    put_summary(label_of(query.wanted), walk.totals, writer)
 }
 
-/// Takes the record of that name, if there is one.
-fn take_left_out<W: CountedWrite>(
-    query: &Query<'_>,
-    name: RecordName,
-    walk: &mut Walk<'_, '_, '_>,
-    writer: &mut W,
-) -> Result<(), ExplainFault>
-    requires one_each { length query.now.sources.now ≡ length query.now.plan.now.files }
-    requires ready { AreReady query.now walk.old.mapper walk.old.sieve }
-    requires counted { IsCounted query.now.plan.now.files walk.old.lines }
-    requires few { (walk.old.totals.pairs < 2 ^ 63) × (walk.old.totals.records < 2 ^ 63) }
-    ensures mappers { OnOk result ((walk.new.mapper ≡ walk.old.mapper)
-        × (walk.new.sieve ≡ walk.old.sieve)) }
-    ensures counted { OnOk result (IsCounted query.now.plan.now.files walk.new.lines) }
-    ensures few { OnOk result ((walk.new.totals.pairs ≤ walk.old.totals.pairs + 2 ^ 31)
-        × (walk.new.totals.records ≤ walk.old.totals.records + 1)) }
-    ensures walked { OnOk result ((done : List NamedRecord) (start : Seen) (held : List ℕ)
-        → HasWalked query.now (codes "left out:") done walk.old.totals start held
-        (W.seen writer.old) walk.old.piece.items
-        → HasWalked query.now (codes "left out:")
-        (done ++ filter_map (record_named (records_of query.now.plan.now)) (name ∷ []))
-        walk.new.totals start held (W.seen writer.new) walk.new.piece.items) }
-    ensures cut { IfErr result (IsCutOff (W.seen writer.old) (W.seen writer.new)) }
-{
-    if !query.plan.has_record(name) {
-        return Ok(());
-    }
-    let line = query.plan.locate(name.split, name.rec);
-    take_record(query, b"left out:", walk, line, writer)?;
-    Ok(())
-}
-
-/// Walks over the records that are left out, in the order of their names.
+/// Walks over the records that are left out, in the order of their names, and prints their summary,
+/// unless none of them is looked for.
 fn walk_left_out<W: CountedWrite>(
     query: &Query<'_>,
     walk: &mut Walk<'_, '_, '_>,
@@ -182,94 +146,42 @@ fn walk_left_out<W: CountedWrite>(
     requires ready { AreReady query.now walk.old.mapper walk.old.sieve }
     requires counted { IsCounted query.now.plan.now.files walk.old.lines }
     requires none { walk.old.totals ≡ record { pairs = 0; records = 0 } }
-    ensures walked { OnOk result
-        (HasWalked query.now (codes "left out:") (left_out_of query.now) walk.new.totals
-        (W.seen writer.old) walk.old.piece.items (W.seen writer.new) walk.new.piece.items) }
+    ensures counts { OnOk result
+        (AreCounts query.now.job.now query.now.wanted (left_out_of query.now) walk.new.totals) }
+    ensures put { OnOk result
+        (W.seen writer.new ≡ with_bytes (W.seen writer.old) (left_out_text query.now)) }
     ensures cut { IfErr result (IsCutOff (W.seen writer.old) (W.seen writer.new)) }
 {
     for name in query.skips {
-        take_left_out(query, *name, walk, writer)?;
+        if !query.plan.has_record(*name) {
+            continue;
+        }
+        let line = query.plan.locate(name.split, name.rec);
+        take_record(query, b"left out:", walk, line, writer)?;
     }
-    Ok(())
+    if walk.totals.records == 0 {
+        return Ok(());
+    }
+    put_summary(b"left out", walk.totals, writer)
 }
 
 fn put_summary<W: CountedWrite>(
     label: &[u8],
     totals: Totals,
-    piece: &mut Vec<u8>,
     writer: &mut W,
 ) -> Result<(), ExplainFault>
-    ensures put { OnOk result (Passes (W.seen writer.old) piece.old.items
-        (W.seen writer.new) piece.new.items
+    ensures put { OnOk result (W.seen writer.new ≡ with_bytes (W.seen writer.old)
         (summary_line label.now totals.pairs totals.records)) }
     ensures cut { IfErr result (IsCutOff (W.seen writer.old) (W.seen writer.new)) }
 {
-    put(writer, piece, label)?;
-    put(writer, piece, b": ")?;
-    put_number(totals.pairs as u128, piece)?;
-    put(writer, piece, b" pairs in ")?;
-    put_number(totals.records as u128, piece)?;
-    put(writer, piece, b" records\n")
+    write_all(writer, label)?;
+    write_all(writer, b": ")?;
+    put_number(totals.pairs as u128, writer)?;
+    write_all(writer, b" pairs in ")?;
+    put_number(totals.records as u128, writer)?;
+    write_all(writer, b" records\n")?;
+    Ok(())
 }
-
-/// Puts the summary of the left-out records, unless none of them is looked for.
-fn put_left_out<W: CountedWrite>(
-    totals: Totals,
-    piece: &mut Vec<u8>,
-    writer: &mut W,
-) -> Result<(), ExplainFault>
-    ensures put { OnOk result (Passes (W.seen writer.old) piece.old.items
-        (W.seen writer.new) piece.new.items
-        (if totals.records == 0 then []
-        else summary_line (codes "left out") totals.pairs totals.records)) }
-    ensures cut { IfErr result (IsCutOff (W.seen writer.old) (W.seen writer.new)) }
-{
-    if totals.records == 0 {
-        return Ok(());
-    }
-    put_summary(b"left out", totals, piece, writer)
-}
-
-/// Walks over the kept records and prints their summary, then over those that are left out, whose
-/// summary is printed if one of them is looked for.
-fn walk_all<W: CountedWrite>(
-    query: &Query<'_>,
-    kept: &KeptPlan<'_>,
-    walk: &mut Walk<'_, '_, '_>,
-    writer: &mut W,
-) -> Result<Explained, ExplainFault>
-    requires kept { kept.now ≡ record { cut = query.now.plan.now; skips = query.now.skips.now } }
-    requires few { length query.now.skips.now < 2 ^ 32 }
-    requires one_each { length query.now.sources.now ≡ length query.now.plan.now.files }
-    requires ready { AreReady query.now walk.old.mapper walk.old.sieve }
-    requires counted { IsCounted query.now.plan.now.files walk.old.lines }
-    requires none { walk.old.totals ≡ record { pairs = 0; records = 0 } }
-    ensures kept { IfOk result
-        (λ r. AreCounts query.now.job.now query.now.wanted (kept_of query.now) r.kept) }
-    ensures left_out { IfOk result
-        (λ r. AreCounts query.now.job.now query.now.wanted (left_out_of query.now) r.left_out) }
-    ensures put { OnOk result (Passes (W.seen writer.old) walk.old.piece.items
-        (W.seen writer.new) walk.new.piece.items
-        (explanation query.now)) }
-    ensures cut { IfErr result (IsCutOff (W.seen writer.old) (W.seen writer.new)) }
-{
-    walk_kept(query, kept, walk, writer)?;
-    let of_kept = walk.totals;
-    put_summary(label_of(query.wanted), of_kept, &mut walk.piece, writer)?;
-    walk.totals = NONE;
-    walk_left_out(query, walk, writer)?;
-    let of_left_out = walk.totals;
-    put_left_out(of_left_out, &mut walk.piece, writer)?;
-    Ok(Explained {
-        kept: of_kept,
-        left_out: of_left_out,
-    })
-}
-
-const NONE: Totals = Totals {
-    pairs: 0,
-    records: 0,
-};
 
 fn label_of(wanted: Wanted<'_>) -> &[u8]
     ensures { result.now ≡ the_label wanted.entry }
@@ -279,6 +191,11 @@ fn label_of(wanted: Wanted<'_>) -> &[u8]
         Wanted::Nothing => b"nothing",
     }
 }
+
+const NONE: Totals = Totals {
+    pairs: 0,
+    records: 0,
+};
 
 /// Writes the kept records that are looked for, in the order of the input, each once, up to the
 /// limit, as `FILE:LINE:OFFSET:record` and LF; then `KEY: N pairs in M records` and LF, with
@@ -340,9 +257,13 @@ fn explain_with<W: CountedWrite>(
             at: 0,
             feeds: 0,
         },
-        piece: Vec::new(alloc),
     };
-    let explained = walk_all(query, kept, &mut walk, writer)?;
-    send(writer, &mut walk.piece)?;
-    Ok(explained)
+    walk_kept(query, kept, &mut walk, writer)?;
+    let kept = walk.totals;
+    walk.totals = NONE;
+    walk_left_out(query, &mut walk, writer)?;
+    Ok(Explained {
+        kept,
+        left_out: walk.totals,
+    })
 }

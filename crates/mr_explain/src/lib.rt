@@ -9,7 +9,8 @@
 //! A record that doesn't contain the key's bytes is not mapped (`sieve.rt`): one search over a file
 //! finds the few that do. Line feeds are counted only up to the last record that is printed.
 //! `explain` over what `sift` keeps of files prints what it prints over the whole files.
-//! Cost: one pass over the input, and a buffer of 64 KiB; nothing is allocated for a record.
+//! Cost: one pass over the input; nothing is allocated for a record. It prints by many small writes,
+//! so the writer should have a buffer.
 #![tactic(auto)]
 
 ghost use Rattle.mr_explain.specs.Laws.{GivesItsKeys, LeftOutAreNamed};
@@ -21,7 +22,6 @@ mod evidence;
 mod group;
 mod lines;
 mod needle;
-mod piece;
 mod query;
 mod sieve;
 mod sifting;

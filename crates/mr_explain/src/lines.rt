@@ -2,8 +2,9 @@
 //!
 //! Line feeds are counted from the record before, if that is earlier in the same file. So records
 //! in order cost one pass over the bytes before the last of them, and any order gives the numbers.
-ghost use Rattle.std.specs.Prelude.{◌≡◌, ℕ, ◌≤◌, ◌<◌, ◌++◌, ◌==◌, List, OnOk, count_by, decimal};
+ghost use Rattle.std.specs.Prelude.{◌≡◌, ℕ, ◌≤◌, ◌<◌, ◌==◌, List, OnErr, OnOk, count_by, decimal};
 ghost use Rattle.std.specs.Prelude.{length};
+ghost use Rattle.mr_store.specs.Devices.{counted, with_bytes};
 ghost use Rattle.mr_input.specs.Files.{nth_file};
 ghost use Rattle.mr_explain.specs.Explained.{feeds_before, head_of};
 ghost use Rattle.mr_explain.specs.Walking.{IsCounted};
@@ -11,7 +12,7 @@ ghost use Rattle.mr_explain.specs.Walking.{IsCounted};
 use crate::query::SourceFile;
 use itoa::Buffer;
 use mr_input::Input;
-use std::alloc::AllocError;
+use mr_store::{CountedWrite, Device, write_all};
 use std::simd::prelude::*;
 
 /// How many line feeds a file has before a place.
@@ -81,28 +82,30 @@ impl LineCount {
     }
 }
 
-/// Appends a number's decimal digits.
-pub(crate) fn put_number(number: u128, out: &mut Vec<u8>) -> Result<(), AllocError>
-    ensures { OnOk result (out.new.items ≡ out.old.items ++ decimal number) }
+/// Writes a number's decimal digits.
+pub(crate) fn put_number<W: CountedWrite>(number: u128, writer: &mut W) -> Result<(), Device>
+    ensures put { OnOk result (W.seen writer.new ≡ with_bytes (W.seen writer.old) (decimal number)) }
+    ensures cut { OnErr result ((W.seen writer.new).failed ≡ counted (W.seen writer.old).failed) }
 {
     let mut digits = Buffer::new();
-    out.extend_from_slice(digits.format(number).as_bytes())
+    write_all(writer, digits.format(number).as_bytes())
 }
 
-/// Appends the file's name, the line's number and the record's place, each with a colon.
-pub(crate) fn put_head(
+/// Writes the file's name, the line's number and the record's place, each with a colon.
+pub(crate) fn put_head<W: CountedWrite>(
     source: SourceFile<'_>,
     feeds: usize,
     start: u32,
-    out: &mut Vec<u8>,
-) -> Result<(), AllocError>
-    ensures { OnOk result (out.new.items ≡ out.old.items ++ head_of source.entry feeds start) }
+    writer: &mut W,
+) -> Result<(), Device>
+    ensures put { OnOk result (W.seen writer.new
+        ≡ with_bytes (W.seen writer.old) (head_of source.entry feeds start)) }
+    ensures cut { OnErr result ((W.seen writer.new).failed ≡ counted (W.seen writer.old).failed) }
 {
-    out.extend_from_slice(source.name)?;
-    out.push(b':')?;
-    put_number(source.lines_before as u128 + feeds as u128 + 1, out)?;
-    out.push(b':')?;
-    put_number(source.bytes_before as u128 + start as u128, out)?;
-    out.push(b':')?;
-    Ok(())
+    write_all(writer, source.name)?;
+    write_all(writer, b":")?;
+    put_number(source.lines_before as u128 + feeds as u128 + 1, writer)?;
+    write_all(writer, b":")?;
+    put_number(source.bytes_before as u128 + start as u128, writer)?;
+    write_all(writer, b":")
 }

@@ -21,7 +21,7 @@ loop-line-init g c =
       counted = c.requires.counted;
       lines = subst (All (Stands files)) (sym start)
           (All-filter (λ r. not (is_left_out q.skips.now r.name)) (Stands files) (records_of q.plan.now) (records-stand q.plan.now.size files));
-      few = ([], start, omega (arith, ap (λ t. t.pairs) c.requires.none), walked_none q [] (g.W.CountedWrite.seen c.args.writer.now) c.args.walk.now.piece.items c.args.walk.now.totals c.requires.none);
+      few = ([], start, omega (arith, ap (λ t. t.pairs) c.requires.none), walked_none q [] (g.W.CountedWrite.seen c.args.writer.now) c.args.walk.now.totals c.requires.none);
     }
 
 pub take_record-requires-clause-few : goal.take_record-requires-clause-few
@@ -59,9 +59,8 @@ loop-line-preserved g c =
       few = (
         done ++ r ∷ [],
         append_assoc done (r ∷ []) c.next.new.self ∙ ap (λ (l : List NamedRecord). done ++ l) (sym c.in-Some.ensures.next) ∙ was.few.1,
-        omega (arith, was.few.2, taken.few, length-append done (r ∷ [])),
-        walked_more q [] (seen c.args.writer.now) c.args.walk.now.piece.items done r c.loop-line.walk.totals c.take_record.new.walk.totals
-            (seen c.loop-line.writer) c.loop-line.walk.piece.items (seen c.take_record.new.writer) c.take_record.new.walk.piece.items
-            was.few.3 taken.counts taken.put,
+        omega (arith, was.few.2, taken.few.0, length-append done (r ∷ [])),
+        walked_more q [] (seen c.args.writer.now) done r c.loop-line.walk.totals c.take_record.new.walk.totals
+            (seen c.loop-line.writer) (seen c.take_record.new.writer) was.few.3 taken.counts taken.put,
       );
     }

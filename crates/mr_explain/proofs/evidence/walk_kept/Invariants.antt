@@ -12,7 +12,7 @@ invariant-loop-line g l = record {
   counted : IsCounted l.query.plan.now.files l.walk.lines;
   lines : All (Stands l.query.plan.now.files) l.left;
   few : (done : List NamedRecord) × (done ++ l.left ≡ kept_of l.query) × (l.walk.totals.pairs ≤ length done * 2 ^ 31)
-      × HasWalked l.query [] done l.walk.totals (g.W.CountedWrite.seen l.fn.writer) l.fn.walk.piece.items (g.W.CountedWrite.seen l.writer) l.walk.piece.items;
+      × HasWalked l.query [] done l.walk.totals (g.W.CountedWrite.seen l.fn.writer) (g.W.CountedWrite.seen l.writer);
 }
 
 abbrev pub decreases-loop-line : goal.decreases-loop-line

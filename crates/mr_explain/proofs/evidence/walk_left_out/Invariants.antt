@@ -12,5 +12,5 @@ invariant-loop-name g l = record {
   counted : IsCounted l.query.plan.now.files l.walk.lines;
   few : (l.walk.totals.pairs ≤ l.name-index * 2 ^ 31) × (l.walk.totals.records ≤ l.name-index);
   walked : HasWalked l.query (codes "left out:") (filter_map (record_named (records_of l.query.plan.now)) (take l.name-index l.query.skips.now)) l.walk.totals
-      (g.W.CountedWrite.seen l.fn.writer) l.fn.walk.piece.items (g.W.CountedWrite.seen l.writer) l.walk.piece.items;
+      (g.W.CountedWrite.seen l.fn.writer) (g.W.CountedWrite.seen l.writer);
 }
