@@ -15,8 +15,7 @@ ghost use Rattle.std.specs.Prelude.{◌≡◌, ◌≤◌, ◌<◌, ⊤, None, If
 
 use crate::names::{Inspect, PathKind};
 use crate::store::{Store, WriteFault};
-use crate::writing::{Failures, read_some, write_some};
-use mr_store::{CountedRead, CountedWrite, Device, ReadFault};
+use mr_store::{CountedRead, CountedWrite, Device, Failures, ReadFault, read_some, write_some};
 use std::alloc::{AllocError, Global};
 use std::cell::Cell;
 use std::fs::{self, File, Metadata};

@@ -1,4 +1,4 @@
-//! Writes a result. Also makes and counts the calls of open files, of any kind.
+//! Writes a result.
 //!
 //!     part-00000  part-00001  ...  certificate      each: writer, all bytes, flush, close
 //!
@@ -6,10 +6,8 @@
 //! the files before are whole, that one has a front part of its bytes or is as it was, and those
 //! after it are as they were. A fault names its file, unless memory was lacking.
 //! Cost: the certificate may be encoded while it is written, so its bytes need not be in memory.
-ghost use Rattle.std.specs.Prelude.{◌≡◌, ◌↔◌, ◌≤◌, ◌<◌, IfOk, IsErr, length, ◌∷◌, [], ◌++◌, ℕ};
+ghost use Rattle.std.specs.Prelude.{◌≡◌, ◌≤◌, ◌<◌, length, ◌∷◌, [], ◌++◌, ℕ};
 ghost use Rattle.std.specs.Prelude.{List, OnOk, IfErr, string_bytes};
-ghost use Rattle.std.specs.Io.KnownBytes.{ReadConsumes, WriteAppends};
-ghost use Rattle.mr_store.specs.Devices.{Counts};
 ghost use Rattle.mr_files.specs.Refusals.{IsUnwritten, IsWriteRefusal};
 ghost use Rattle.mr_input.specs.Files.{contents};
 ghost use Rattle.mr_files.specs.Holding.{Begins, Holding, ChangesOnly, ChangesAmong};
@@ -19,59 +17,6 @@ use crate::names::{certificate_name, part_name};
 use crate::store::{FileFault, Store, WriteFault};
 use mr_store::{Bytes, CountedWrite, Device, Encode, write_encoded};
 use std::alloc::Global;
-use std::io::{self, ErrorKind, Read, Write};
-
-#[derive(Drop)]
-pub(crate) struct Failures {
-    pub(crate) count: u64,
-    pub(crate) lacked_memory: bool,
-}
-
-impl Failures {
-    pub(crate) fn new() -> Failures {
-        Failures {
-            count: 0,
-            lacked_memory: false,
-        }
-    }
-
-    /// The answer of a call. It counts each failure, an interrupted call too.
-    pub(crate) fn counted<T: Drop>(&mut self, answer: io::Result<T>) -> Result<T, Device>
-        ensures ok { IfOk result (λ v. answer ≡ Ok v) }
-        ensures err { IsErr result ↔ IsErr answer }
-        ensures count { Counts self.old.count self.new.count result }
-    {
-        match answer {
-            Ok(value) => Ok(value),
-            Err(error) => {
-                self.count = self.count.wrapping_add(1);
-                self.lacked_memory = self.lacked_memory || error.kind() == ErrorKind::OutOfMemory;
-                Err(Device)
-            }
-        }
-    }
-}
-
-pub(crate) fn read_some<F: Read>(file: &mut F, buffer: &mut [u8]) -> io::Result<usize>
-    ensures bound { IfOk result (λ n. n ≤ length buffer.new) }
-    ensures bytes { ReadConsumes (F.remaining file.old) (F.remaining file.new) result buffer.new }
-{
-    file.read(buffer)
-}
-
-/// One write. It fails if the file takes none of some bytes.
-pub(crate) fn write_some<F: Write>(file: &mut F, bytes: &[u8]) -> io::Result<usize>
-    ensures bound { IfOk result (λ n. n ≤ length bytes.now) }
-    ensures some { IfOk result (λ n. 0 < length bytes.now → 0 < n) }
-    ensures bytes { IfOk result
-        (λ n. WriteAppends (F.contents file.old) (F.contents file.new) result bytes.now) }
-{
-    let count = file.write(bytes)?;
-    if count == 0 && !bytes.is_empty() {
-        return Err(io::Error::from(ErrorKind::WriteZero));
-    }
-    Ok(count)
-}
 
 fn write_encoded_file<S: Store, C: Encode>(
     store: &mut S,

@@ -2,16 +2,14 @@
 //!
 //! No clause of std says what a file contains. So read this code: a region is written under the
 //! name that is read later.
-ghost use Rattle.std.specs.Prelude.{◌≡◌, ◌<◌, false, vec_len, IfOk, OnErr, OnOk, ◌↔◌, ◌≤◌, None};
-ghost use Rattle.std.specs.Prelude.{IsErr, length};
+ghost use Rattle.std.specs.Prelude.{◌≡◌, ◌<◌, false, vec_len, IfOk, OnErr, OnOk};
 ghost use Rattle.mr_spill.specs.Stores.{Grows};
-ghost use Rattle.mr_store.specs.Devices.{Counts};
 
 use crate::store::{GetFault, MemoryStore, PutFault, RegionStore};
-use mr_store::{CountedRead, CountedWrite, Device, read_all, write_all};
+use mr_store::{Counted, CountedWrite, read_all, write_all};
 use std::alloc::{AllocError, Global};
 use std::fs::{File, TryLockError};
-use std::io::{self, ErrorKind, Read, Write};
+use std::io::{self, ErrorKind};
 use std::rt::Files;
 use std::sync::Wait;
 use std::sync::atomic::{AtomicU64, Ordering};
@@ -129,99 +127,6 @@ impl<'a, R: Files + Sync> RegionStore for DirStore<'a, R> {
         }
         let name = self.name(worker, number)?;
         self.read(name.as_str(), into)
-    }
-}
-
-/// An open file that counts its failed calls.
-#[derive(Drop)]
-pub(crate) struct Counted<F: Drop> {
-    file: F,
-    failures: u64,
-    lacked_memory: bool,
-}
-
-impl<F: Drop> Counted<F> {
-    pub(crate) fn of(file: F) -> Counted<F> {
-        Counted {
-            file,
-            failures: 0,
-            lacked_memory: false,
-        }
-    }
-
-    fn counted<T: Drop>(&mut self, answer: io::Result<T>) -> Result<T, Device>
-        ensures ok { IfOk result (λ v. answer ≡ Ok v) }
-        ensures err { IsErr result ↔ IsErr answer }
-        ensures count { Counts self.old.failures self.new.failures result }
-    {
-        match answer {
-            Ok(value) => Ok(value),
-            Err(error) => {
-                self.failures = self.failures.wrapping_add(1);
-                self.lacked_memory = self.lacked_memory || error.kind() == ErrorKind::OutOfMemory;
-                Err(Device)
-            }
-        }
-    }
-}
-
-fn read_some<F: Read>(file: &mut F, buffer: &mut [u8]) -> io::Result<usize>
-    ensures { IfOk result (λ n. n ≤ length buffer.new) }
-{
-    file.read(buffer)
-}
-
-fn write_some<F: Write>(file: &mut F, bytes: &[u8]) -> io::Result<usize>
-    ensures bound { IfOk result (λ n. n ≤ length bytes.now) }
-    ensures some { IfOk result (λ n. 0 < length bytes.now → 0 < n) }
-{
-    let count = file.write(bytes)?;
-    if count == 0 && !bytes.is_empty() {
-        return Err(io::Error::from(ErrorKind::WriteZero));
-    }
-    Ok(count)
-}
-
-impl<F: Read + Drop> CountedRead for Counted<F> {
-    ghost failed = { λ r. r.failures };
-
-    ghost lacked = { λ r. r.lacked_memory };
-
-    fn read(&mut self, buffer: &mut [u8]) -> Result<usize, Device> {
-        let answer = read_some(&mut self.file, buffer);
-        self.counted(answer)
-    }
-
-    fn failures(&self) -> u64 {
-        self.failures
-    }
-
-    fn is_out_of_memory(&self) -> bool {
-        self.lacked_memory
-    }
-}
-
-impl<F: Write + Drop> CountedWrite for Counted<F> {
-    ghost seen = { λ w. record { contents = None; handed_on = None; failed = w.failures } };
-
-    ghost lacked = { λ w. w.lacked_memory };
-
-    fn write(&mut self, bytes: &[u8]) -> Result<usize, Device> {
-        let answer = write_some(&mut self.file, bytes);
-        self.counted(answer)
-    }
-
-    fn flush(&mut self) -> Result<(), Device> {
-        let answer = self.file.flush();
-        self.counted(answer)
-    }
-
-    fn failures(&self) -> u64 {
-        self.failures
-    }
-
-    fn is_out_of_memory(&self) -> bool {
-        self.lacked_memory
     }
 }
 

@@ -4,6 +4,7 @@
 //!                   -> ReadBuffer                      -> a window of the bytes to come
 //!     CountedWrite  <- write_all, write_result         <- bytes in memory
 //!                   <- write_encoded                   <- an `Encode` value, piece by piece
+//!     Counted       is either, over a reader or a writer of std
 //!
 //! A read asks for at most 64 KiB. Its buffer is on the stack; only a `ReadBuffer` allocates one,
 //! once. Writes are not buffered here: a value of many small pieces brings its own buffer, as a
@@ -14,6 +15,7 @@
 
 mod device;
 mod encode;
+mod failures;
 mod limited;
 mod memory_reader;
 mod memory_writer;
@@ -22,6 +24,7 @@ mod writing;
 
 pub use crate::device::{CountedRead, CountedWrite, Device};
 pub use crate::encode::{Bytes, Encode, write_encoded};
+pub use crate::failures::{Counted, Failures, read_some, write_some};
 pub use crate::limited::{LimitedFault, read_limited};
 pub use crate::memory_reader::MemoryReader;
 pub use crate::memory_writer::MemoryWriter;
