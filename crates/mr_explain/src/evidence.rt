@@ -1,16 +1,10 @@
 //! Walks over the records that a job reads, then over those that it leaves out, and prints.
 //!
 //! Invariant of a walk: the totals are those of the records so far, and their lines are put.
-ghost use Rattle.std.specs.Prelude.{◌≡◌, ◌≤◌, ◌<◌, ◌+◌, ◌^◌, ◌++◌, ◌∷◌, [], IfErr, IfOk, OnOk, length};
-ghost use Rattle.std.specs.Prelude.{List, ℕ, ◌==◌, codes, if◌then◌else◌};
-ghost use Rattle.std.specs.List.{filter_map};
-ghost use Rattle.mr_input.specs.Files.{nth_file};
+ghost use Rattle.std.specs.Prelude.{◌≡◌, ◌≤◌, ◌<◌, ◌+◌, ◌^◌, ◌++◌, IfErr, IfOk, OnOk, length};
 ghost use Rattle.mr_jobs.specs.Emissions.{emissions};
 ghost use Rattle.mr_jobs.specs.Hits.{IsLine};
-ghost use Rattle.mr_splits.specs.Cut.{record_named, records_of};
-ghost use Rattle.mr_splits.specs.Named.{NamedRecord};
-ghost use Rattle.mr_splits.specs.Kept.{kept_records};
-ghost use Rattle.mr_store.specs.Devices.{Seen, with_bytes};
+ghost use Rattle.mr_store.specs.Devices.{with_bytes};
 ghost use Rattle.mr_explain.specs.Explained.{IsCutOff, explanation, kept_of, kept_text, left_out_of};
 ghost use Rattle.mr_explain.specs.Explained.{label_of as the_label};
 ghost use Rattle.mr_explain.specs.Explained.{left_out_text, line_at, summary_line};
@@ -25,7 +19,7 @@ use crate::sieve::sieve_of;
 use mr_jobs::{Job, Mapper};
 use mr_splits::{KeptPlan, RecordAt};
 use mr_store::{CountedWrite, write_all};
-use std::alloc::{AllocError, Global};
+use std::alloc::Global;
 
 /// What a walk over records maps them by, and has counted.
 #[derive(Drop)]

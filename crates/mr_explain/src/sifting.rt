@@ -15,9 +15,9 @@
 //! 64 KiB, the unfinished record, and what is kept, which is copied once.
 ghost use Rattle.std.specs.Prelude.{◌≡◌, ◌↔◌, ◌⊎◌, ℕ, List, [], ◌∷◌, ◌++◌, ◌+◌, ◌<◌, ◌≤◌, ◌^◌, IfOk};
 ghost use Rattle.std.specs.Prelude.{OnOk, drop, length, map, take, true};
-ghost use Rattle.std.specs.Io.KnownBytes.{Consumes, IsAtEnd, ReadConsumes};
+ghost use Rattle.std.specs.Io.KnownBytes.{Consumes, IsAtEnd};
 ghost use Rattle.mr_input.specs.Files.{contents};
-ghost use Rattle.mr_store.specs.Devices.{Counts, FailsOnly, counted};
+ghost use Rattle.mr_store.specs.Devices.{counted};
 ghost use Rattle.mr_explain.specs.Sifting.{EndsLine, IsSifting, IsSiftingOf, IsUnwanted, feeds_in};
 ghost use Rattle.mr_explain.specs.Sifting.{as_file, heading_of, kept_lines};
 ghost use Rattle.mr_explain.specs.Needles.{AllLack, Lacks};
@@ -30,7 +30,7 @@ use memchr::{memchr, memrchr};
 use mr_input::{Input, MAX_SPLIT_SIZE};
 use mr_jobs::Job;
 use mr_splits::Plan;
-use mr_store::{CountedRead, Device, LimitedFault};
+use mr_store::{CountedRead, LimitedFault, PIECE, bytes_asked, read_at_most};
 use std::alloc::{AllocError, Global};
 use std::mem;
 
@@ -119,9 +119,6 @@ pub fn plan_excerpts(alloc: Global, excerpts: &Input) -> Result<Plan<'_>, AllocE
     Plan::new_fitting(alloc, excerpts, MAX_SPLIT_SIZE)
 }
 
-/// The most bytes that one read asks for.
-const PIECE: usize = 65_536;
-
 #[derive(Drop)]
 pub(crate) struct Sifter<'k> {
     needle: Needle<'k>,
@@ -158,7 +155,7 @@ fn take_all<R: CountedRead>(
     let mut buffer = [0u8; PIECE];
     let mut left = limit;
     loop {
-        let count = read_some(reader, &mut buffer, asked(left))?;
+        let count = read_at_most(reader, &mut buffer, bytes_asked(left))?;
         if count == 0 {
             return Ok(limit - left);
         }
@@ -168,33 +165,6 @@ fn take_all<R: CountedRead>(
         sifter.take(alloc, &buffer[..count])?;
         left -= count as u64;
     }
-}
-
-/// How many bytes the next read asks for if `left` may still come: one more, to notice an excess.
-fn asked(left: u64) -> usize
-    ensures some { 0 < result }
-    ensures within { result ≤ left + 1 }
-    ensures piece { result ≤ 65536 }
-{
-    left.min(PIECE as u64 - 1) as usize + 1
-}
-
-fn read_some<R: CountedRead>(
-    reader: &mut R,
-    buffer: &mut [u8],
-    most: usize,
-) -> Result<usize, Device>
-    requires room { most ≤ length buffer.old }
-    requires some { 0 < most }
-    ensures bound { IfOk result (λ n. n ≤ most) }
-    ensures len { length buffer.new ≡ length buffer.old }
-    ensures bytes { ReadConsumes (R.remaining reader.old) (R.remaining reader.new) result buffer.new }
-    ensures count { Counts (R.failed reader.old) (R.failed reader.new) result }
-    ensures fails { FailsOnly (R.can_fail reader.old) (R.lacked reader.new) result }
-    ensures later { R.can_fail reader.new → R.can_fail reader.old }
-{
-    let (front, _) = buffer.split_at_mut(most);
-    reader.read(front)
 }
 
 impl<'k> Sifter<'k> {

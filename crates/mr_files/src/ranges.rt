@@ -11,15 +11,14 @@
 ghost use Rattle.std.specs.Prelude.{◌≡◌, ◌≤◌, ◌<◌, ◌⊎◌, ◌++◌, IfOk, IfErr, OnOk, MatchOption};
 ghost use Rattle.std.specs.Prelude.{true, false, ℕ, Option, List, length};
 ghost use Rattle.std.specs.Option.{ForSome};
-ghost use Rattle.std.specs.Io.KnownBytes.{IsAtEnd, ReadConsumes};
-ghost use Rattle.mr_store.specs.Devices.{FailsOnly};
+ghost use Rattle.std.specs.Io.KnownBytes.{IsAtEnd};
 ghost use Rattle.mr_files.specs.Holding.{Agrees};
 ghost use Rattle.mr_files.specs.Refusals.{IsUnread};
 ghost use Rattle.mr_files.specs.Ranges.{EndsLine, IsFront, IsOpenAt, IsRangeOf, IsRangeRefusal, IsRead};
 
 use crate::reading::{LimitFault, fault_of, read_rest};
 use crate::store::{FileFault, Store};
-use mr_store::{CountedRead, Device, ReadFault};
+use mr_store::{CountedRead, PIECE, ReadFault, read_at_most};
 use std::alloc::{AllocError, Global};
 
 /// Why a range of a file was not read.
@@ -33,9 +32,6 @@ pub enum RangeFault {
     /// The range has more bytes than the limit.
     TooLong,
 }
-
-/// The most bytes that one read asks for.
-const PIECE: usize = 65_536;
 
 fn ends_line(bytes: &[u8]) -> bool
     ensures yes { result ≡ true → EndsLine bytes.now }
@@ -53,26 +49,6 @@ fn may_end(bytes: &[u8], ends: bool) -> bool
     ensures no { result ≡ false → (ends ≡ false) × (EndsLine bytes.now → ⊥) }
 {
     ends || ends_line(bytes)
-}
-
-fn read_some<R: CountedRead>(reader: &mut R, buffer: &mut [u8], most: u64) -> Result<usize, Device>
-    requires room { 0 < length buffer.old }
-    requires some { 0 < most }
-    ensures bound { IfOk result (λ n. n ≤ most) }
-    ensures len { length buffer.new ≡ length buffer.old }
-    ensures inside { IfOk result (λ n. n ≤ length buffer.new) }
-    ensures bytes { ReadConsumes (R.remaining reader.old) (R.remaining reader.new) result buffer.new }
-    ensures fails { FailsOnly (R.can_fail reader.old) (R.lacked reader.new) result }
-    ensures later { R.can_fail reader.new → R.can_fail reader.old }
-{
-    let room = buffer.len();
-    let asked = if most < room as u64 {
-        most as usize
-    } else {
-        room
-    };
-    let (front, _) = buffer.split_at_mut(asked);
-    reader.read(front)
 }
 
 /// Appends a piece of what is read; if nothing is to be kept, the list has this piece alone.
@@ -103,7 +79,8 @@ fn read_pieces<R: CountedRead>(
     let mut bytes = Vec::new(alloc);
     let mut left = most;
     while left > 0 {
-        let count = read_some(reader, &mut buffer, left)?;
+        let most = left.min(PIECE as u64) as usize;
+        let count = read_at_most(reader, &mut buffer, most)?;
         if count == 0 {
             return Ok((bytes, left));
         }

@@ -25,7 +25,7 @@ mod writing;
 pub use crate::device::{CountedRead, CountedWrite, Device};
 pub use crate::encode::{Bytes, Encode, write_encoded};
 pub use crate::failures::{Counted, Failures, read_some, write_some};
-pub use crate::limited::{LimitedFault, read_limited};
+pub use crate::limited::{LimitedFault, PIECE, bytes_asked, read_at_most, read_limited};
 pub use crate::memory_reader::MemoryReader;
 pub use crate::memory_writer::MemoryWriter;
 pub use crate::reading::{ReadBuffer, ReadFault, read_all};

@@ -42,22 +42,19 @@ impl From<AllocError> for LimitedFault {
 }
 
 /// The most bytes that one read asks for.
-const PIECE: usize = 65_536;
+pub const PIECE: usize = 65_536;
 
 /// How many bytes the next read asks for if `left` may still come: one more, to notice an excess.
-fn asked(left: u64) -> usize
+pub fn bytes_asked(left: u64) -> usize
     ensures some { 0 < result }
     ensures within { result ≤ left + 1 }
     ensures piece { result ≤ 65536 }
 {
-    if left < PIECE as u64 {
-        left as usize + 1
-    } else {
-        PIECE
-    }
+    left.min(PIECE as u64 - 1) as usize + 1
 }
 
-fn read_some<R: CountedRead>(
+/// Reads at most so many bytes into the front of the buffer, and returns how many; 0 at the end.
+pub fn read_at_most<R: CountedRead>(
     reader: &mut R,
     buffer: &mut [u8],
     most: usize,
@@ -87,7 +84,7 @@ fn read_limited_onto<R: CountedRead>(
     let mut buffer = [0u8; PIECE];
     let mut left = limit;
     loop {
-        let count = read_some(reader, &mut buffer, asked(left))?;
+        let count = read_at_most(reader, &mut buffer, bytes_asked(left))?;
         if count == 0 {
             return Ok(());
         }

@@ -8,12 +8,12 @@ pub returns-then-count-left-clause-consumes : goal.returns-then-count-left-claus
 returns-then-count-left-clause-consumes g c =
     let i = c.loop-count.invariant.took in
     let read = c.in_ok-count.ensures in
-    let piece : List ℕ = take c.in_ok-count.count c.read_some.new.buffer in
-    let held = length-take-le c.in_ok-count.count c.read_some.new.buffer (omega (arith, read.bound, read.len, c.asked.ensures.piece)) in
+    let piece : List ℕ = take c.in_ok-count.count c.read_at_most.new.buffer in
+    let held = length-take-le c.in_ok-count.count c.read_at_most.new.buffer (omega (arith, read.bound, read.len, c.bytes_asked.ensures.piece)) in
     let longer = length-append i.got piece in (
       i.got ++ piece,
       Consumes-trans _ _ _ _ _ i.consumed read.bytes.0,
-      omega (arith, longer, held, i.count, read.bound, c.asked.ensures.within),
+      omega (arith, longer, held, i.count, read.bound, c.bytes_asked.ensures.within),
       ((λ e. omega (arith, longer, held, i.count, c.if-count-left.true)), (λ less. refl)),
     )
 
@@ -22,8 +22,8 @@ returns-in_err-take-clause-consumes g c =
     let p = err_from_is_err_and c.from_residual-in_err-take.result c.from_residual-in_err-take.ensures.1 in
     let i = c.loop-count.invariant.took in
     let read = c.in_ok-count.ensures in
-    let piece : List ℕ = take c.in_ok-count.count c.read_some.new.buffer in
-    let held = length-take-le c.in_ok-count.count c.read_some.new.buffer (omega (arith, read.bound, read.len, c.asked.ensures.piece)) in
+    let piece : List ℕ = take c.in_ok-count.count c.read_at_most.new.buffer in
+    let held = length-take-le c.in_ok-count.count c.read_at_most.new.buffer (omega (arith, read.bound, read.len, c.bytes_asked.ensures.piece)) in
     let longer = length-append i.got piece in
     let within : length (i.got ++ piece) ≤ c.args.limit = omega (arith, longer, held, i.count, c.if-count-left.false) in
     rw p.1 (rw p.2 (
@@ -37,8 +37,8 @@ pub loop-count-preserved : goal.loop-count-preserved
 loop-count-preserved g c =
     let i = c.loop-count.invariant in
     let read = c.in_ok-count.ensures in
-    let piece : List ℕ = take c.in_ok-count.count c.read_some.new.buffer in
-    let held = length-take-le c.in_ok-count.count c.read_some.new.buffer (omega (arith, read.bound, read.len, c.asked.ensures.piece)) in
+    let piece : List ℕ = take c.in_ok-count.count c.read_at_most.new.buffer in
+    let held = length-take-le c.in_ok-count.count c.read_at_most.new.buffer (omega (arith, read.bound, read.len, c.bytes_asked.ensures.piece)) in
     record {
       took = record {
         got = i.took.got ++ piece;

@@ -13,12 +13,12 @@ pub loop-left-preserved : goal.loop-left-preserved
 loop-left-preserved g c =
     let i = c.loop-left.invariant in
     let read = c.in_ok-count.ensures in
-    let piece = take c.in_ok-count.count c.read_some.new.buffer in
-    let held = length-take-le c.in_ok-count.count c.read_some.new.buffer read.inside in
+    let piece = take c.in_ok-count.count c.read_at_most.new.buffer in
+    let held = length-take-le c.in_ok-count.count c.read_at_most.new.buffer (omega (arith, read.bound, read.len, c.min-most.ensures)) in
     let told = c.in_ok-take_piece.ensures in
     record {
-      read = read_more (g.R.CountedRead.remaining c.args.reader.now) (g.R.CountedRead.remaining c.loop-left.reader) (g.R.CountedRead.remaining c.read_some.new.reader)
+      read = read_more (g.R.CountedRead.remaining c.args.reader.now) (g.R.CountedRead.remaining c.loop-left.reader) (g.R.CountedRead.remaining c.read_at_most.new.reader)
           c.args.most c.args.keep c.loop-left.bytes.items piece c.take_piece.new.bytes.items c.loop-left.left (c.loop-left.left - c.in_ok-count.count)
-          i.read read.bytes.0 (omega (arith, held, c.if-count-eq0.false)) (omega (arith, held, read.bound)) told.kept told.last;
-      later = λ h. i.later (c.read_some.ensures.later h);
+          i.read read.bytes.0 (omega (arith, held, c.if-count-eq0.false)) (omega (arith, held, read.bound, c.min-most.ensures)) told.kept told.last;
+      later = λ h. i.later (c.read_at_most.ensures.later h);
     }
