@@ -1,6 +1,6 @@
 //! Walks over the records that a job reads, then over those that it leaves out, and prints.
 //!
-//! Invariant of a walk: the totals are those of the records so far, and their lines are put.
+//! Invariant of a walk: the totals are those of the records so far, and their lines are printed.
 ghost use Rattle.std.specs.Prelude.{◌≡◌, ◌≤◌, ◌<◌, ◌+◌, ◌^◌, ◌++◌, IfErr, IfOk, OnOk, length};
 ghost use Rattle.mr_jobs.specs.Emissions.{emissions};
 ghost use Rattle.mr_jobs.specs.Hits.{IsLine};
