@@ -1,6 +1,6 @@
 -- Parts and ranges that are tested against a verdict.
 use Rattle.std.proofs.Common.{◌≡◌, ℕ, suc, ◌+◌, ◌^◌, true, List, [], ◌∷◌, ◌++◌, append-nil, length, refl, ap, sym, ◌∙◌, subst, arith, string_bytes, inl, inr}
-use Rattle.std.specs.Prelude.{Option, Some, Bool, ◌⊎◌}
+use Rattle.std.specs.Prelude.{Option, Some}
 use Rattle.mr_files.specs.Holding.{Faulty, Stored}
 use Rattle.mr_files.specs.Ranges.{IsRangeRefusal}
 use Rattle.mr_files.specs.Refusals.{IsUnread}
@@ -18,10 +18,9 @@ use Rattle.mr_shard_files.specs.declared.stream.Part.{Part}
 use Rattle.mr_shard_files.specs.Beside.{ReportsCause, StandsBeside}
 use Rattle.mr_shard_files.specs.Faults.{IsPartFault, IsUnopened}
 use Rattle.mr_shard_files.specs.Streams.{IsOpened, IsOther, IsSettled, IsStream, Moves, ReportsUnread, is_done}
-use Rattle.mr_shard_files.specs.Merging.{IsHeard}
 use Rattle.mr_shard_files.specs.Told.{told_of_file, told_of_range}
 use Rattle.mr_shard_files.specs.Pairs.{IsTotalOf}
-use Rattle.mr_shard_files.specs.Verified.{AreNoted, IsNotedPart, IsRangeFault, IsUntrue, IsUnverified, beside_name}
+use Rattle.mr_shard_files.specs.Verified.{AreNoted, IsNotedPart, IsRangeFault}
 use Rattle.mr_shard_files.proofs.StreamLemmas.{moves_on}
 use Rattle.mr_shard_files.proofs.SettleLemmas.{moved_on, other_part, unread_part, whole}
 
@@ -89,8 +88,3 @@ module _ (holds : Stored) (unreadable : Faulty) (r : RangeNote) (name : List ℕ
   range_refused PastEnd h = (refl, inr (inr (inl (PastEnd, at_note PastEnd h))))
   range_refused (InsideALine byte) h = (refl, inr (inr (inl (InsideALine byte, at_note (InsideALine byte) h))))
   range_refused TooLong h = (refl, inr (inr (inl (TooLong, at_note TooLong h))))
-
-pub unverified : (holds : Stored) (unreadable : Faulty) (verdict : List ℕ) (out : Option (List ℕ)) (inputs : Bool) (v : Told) (e : ShardFault) → IsHeard holds verdict v
-    → (e ≡ OutOfMemory) ⊎ IsUntrue holds unreadable (beside_name verdict out) inputs v e → IsUnverified holds unreadable verdict out inputs e
-unverified holds unreadable verdict out inputs v e heard (inl none) = inl none
-unverified holds unreadable verdict out inputs v e heard (inr why) = inr (inr (v, heard, why))

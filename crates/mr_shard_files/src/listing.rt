@@ -45,18 +45,6 @@ fn escaped(alloc: Global, name: &[u8]) -> Result<Vec<u8>, AllocError>
     Ok(text)
 }
 
-/// Appends `\` if the name has an escape.
-fn put_mark(name: &[u8], written: &[u8], out: &mut Vec<u8>) -> Result<(), AllocError>
-    requires { written.now ≡ escaped_name name.now }
-    ensures { OnOk result (out.new.items ≡ out.old.items ++ mark_of name.now) }
-{
-    if written == name {
-        Ok(())
-    } else {
-        out.extend_from_slice(b"\\")
-    }
-}
-
 /// Appends hexadecimal digits and a space.
 fn put_digest(digest: &[u8; 32], out: &mut Vec<u8>) -> Result<(), AllocError>
     ensures { OnOk result (out.new.items ≡ out.old.items ++ encode_lower digest.now ++ 32 ∷ []) }
@@ -82,6 +70,18 @@ fn put_stretch(range: &FileRange, out: &mut Vec<u8>) -> Result<(), AllocError>
     out.extend_from_slice(to.format(range.from + range.length).as_bytes())?;
     out.push(b' ')?;
     Ok(())
+}
+
+/// Appends `\` if the name has an escape.
+fn put_mark(name: &[u8], written: &[u8], out: &mut Vec<u8>) -> Result<(), AllocError>
+    requires { written.now ≡ escaped_name name.now }
+    ensures { OnOk result (out.new.items ≡ out.old.items ++ mark_of name.now) }
+{
+    if written == name {
+        Ok(())
+    } else {
+        out.extend_from_slice(b"\\")
+    }
 }
 
 fn put_line(alloc: Global, range: &FileRange, out: &mut Vec<u8>) -> Result<(), AllocError>
@@ -114,46 +114,6 @@ fn line_feeds(bytes: &[u8]) -> u64
     bytes.iter().filter(|byte| **byte == b'\n').count() as u64
 }
 
-/// The first line, from 0, in which two texts differ; none if they are equal.
-fn first_other_line(given: &[u8], told: &[u8]) -> Option<u64>
-    ensures { MatchOption result (given.now ≡ told.now) (DifferIn given.now told.now) }
-{
-    match first_difference(given, told) {
-        Some(at) => Some(line_feeds(&given[..at])),
-        None => None,
-    }
-}
-
-fn list_text<S: Store>(store: &S, alloc: Global, name: &str) -> Result<Vec<u8>, ShardFault>
-    ensures ok { IfOk result (λ text. S.holds store.now name.now text.items) }
-    ensures err { IfErr result (IsListUnread (S.holds store.now) (S.unreadable store.now) name.now) }
-{
-    match read_file_within(store, alloc, name, MAX_TEXT_BYTES) {
-        Ok(text) => Ok(text),
-        Err(LimitFault::TooLong) => Err(ShardFault::LongList),
-        Err(LimitFault::File(fault)) => Err(ShardFault::from(fault)),
-    }
-}
-
-fn expect_list<S: Store>(
-    store: &S,
-    alloc: Global,
-    name: &str,
-    inputs: &[FileRange],
-) -> Result<(), ShardFault>
-    requires { AllByRecursion IsNearRange inputs.now }
-    ensures ok { OnOk result (S.holds store.now name.now (listing inputs.now)) }
-    ensures err { IfErr result (λ e. IsListUnread (S.holds store.now) (S.unreadable store.now) name.now e
-        ⊎ IsOtherList (S.holds store.now) name.now inputs.now e) }
-{
-    let given = list_text(store, alloc, name)?;
-    let told = list_of(alloc, inputs)?;
-    match first_other_line(given.as_slice(), told.as_slice()) {
-        None => Ok(()),
-        Some(line) => Err(ShardFault::OtherInputs { line }),
-    }
-}
-
 /// Compares the list, if there is one, with the one of these inputs.
 pub(crate) fn expect_listed<S: Store>(
     store: &S,
@@ -166,10 +126,21 @@ pub(crate) fn expect_listed<S: Store>(
     ensures err { IfErr result (IsListFault (S.holds store.now) (S.unreadable store.now)
         (option_map (λ n. n.now) list.entry) inputs.now) }
 {
-    match list {
-        Some(name) => expect_list(store, alloc, name, inputs),
-        None => Ok(()),
-    }
+    let Some(name) = list else {
+        return Ok(());
+    };
+    let given = match read_file_within(store, alloc, name, MAX_TEXT_BYTES) {
+        Ok(text) => text,
+        Err(LimitFault::TooLong) => return Err(ShardFault::LongList),
+        Err(LimitFault::File(fault)) => return Err(ShardFault::from(fault)),
+    };
+    let told = list_of(alloc, inputs)?;
+    let Some(at) = first_difference(given.as_slice(), told.as_slice()) else {
+        return Ok(());
+    };
+    // The first line, from 0, in which the lists differ.
+    let line = line_feeds(&given[..at]);
+    Err(ShardFault::OtherInputs { line })
 }
 
 /// The most bytes of a verdict or of a list of inputs: 1 GiB.

@@ -24,12 +24,12 @@ use crate::fault::ShardFault;
 use crate::listing::{expect_listed, read_verdicts};
 use crate::partition::partitions_written;
 use crate::sharing::{expect_apart, expect_unshared, save_verdict};
-use crate::stream::{Part, fault_of};
+use crate::stream::Part;
 use mr_files::{Store, folder_of, part_name};
 use mr_jobs::Request;
 use mr_shards::{
-    FileNote, FileRange, Gap, ShardFiles, Verdict, first_gap, first_repeat, join_verdicts,
-    request_of, shard_files,
+    FileRange, Gap, ShardFiles, Verdict, first_gap, first_repeat, join_verdicts, request_of,
+    shard_files,
 };
 use mr_store::ReadFault;
 use std::alloc::{AllocError, Global};
@@ -137,12 +137,6 @@ fn join_once(
     Ok(joined)
 }
 
-fn add_notes(verdict: Verdict, outputs: Vec<FileNote>) -> Verdict
-    ensures { result ≡ with_notes verdict outputs.items }
-{
-    Verdict { outputs, ..verdict }
-}
-
 /// What a merge is asked for.
 #[derive(Clone, Copy)]
 pub struct MergePlan<'a> {
@@ -199,32 +193,6 @@ fn prepare<S: Store>(
     Ok((request, joined))
 }
 
-fn merge_verdicts<S: Store, T: Threads>(
-    rt: &T,
-    store: &mut S,
-    alloc: Global,
-    plan: &MergePlan<'_>,
-    verdicts: &[Verdict],
-) -> Result<Verdict, ShardFault>
-    requires { AreHeard (S.holds store.old) (map (λ s. s.now) plan.now.names.now) verdicts.now }
-    ensures ok { IfOk result (IsMerged (S.holds store.old) (S.holds store.new)
-        (S.known_as store.old) (map (λ s. s.now) plan.now.names.now)
-        (option_map (λ n. n.now) plan.now.list) plan.now.out.now plan.now.partial) }
-    ensures others { ChangesResult (S.holds store.old) (S.holds store.new) plan.now.out.now }
-    ensures refused { IfErr result (IsShardRefusal (S.holds store.old) (S.holds store.new)
-        (S.unreadable store.old) (S.unwritable store.old)
-        (S.alike store.old) (S.known_as store.old) (map (λ s. s.now) plan.now.names.now)
-        (option_map (λ n. n.now) plan.now.list) plan.now.out.now plan.now.partial) }
-{
-    let (request, joined) = prepare(store, alloc, plan, verdicts)?;
-    let files = list_files(alloc, joined.inputs.as_slice(), verdicts)?;
-    let files = files.as_slice();
-    let notes = partitions_written(rt, store, alloc, plan, &request, verdicts, files)?;
-    let merged = add_notes(joined, notes);
-    save_verdict(store, alloc, plan.out, &merged)?;
-    Ok(merged)
-}
-
 /// Merges shards. Each name of the plan is that of a verdict, with the parts that it lists in the
 /// same folder. The inputs of all verdicts, one behind another, tile files; none begins twice. The
 /// merge writes the parts of the result to the folder, and last their verdict, which it returns.
@@ -250,7 +218,14 @@ pub fn merge_shards<S: Store, T: Threads>(
         (option_map (λ n. n.now) plan.now.list) plan.now.out.now plan.now.partial) }
 {
     let verdicts = read_verdicts(store, alloc, plan.names)?;
-    merge_verdicts(rt, store, alloc, plan, verdicts.as_slice())
+    let verdicts = verdicts.as_slice();
+    let (request, joined) = prepare(store, alloc, plan, verdicts)?;
+    let files = list_files(alloc, joined.inputs.as_slice(), verdicts)?;
+    let files = files.as_slice();
+    let outputs = partitions_written(rt, store, alloc, plan, &request, verdicts, files)?;
+    let merged = Verdict { outputs, ..joined };
+    save_verdict(store, alloc, plan.out, &merged)?;
+    Ok(merged)
 }
 
 /// The output's length in the verdict; 0 if it lists no such output.
@@ -282,7 +257,7 @@ pub(crate) fn open_part<S: Store>(
             Ok(Part::new(alloc, file, reader, length))
         }
         Err(ReadFault::OutOfMemory) => Err(ShardFault::OutOfMemory),
-        Err(ReadFault::Device) => Err(fault_of(alloc, file.as_str(), false)),
+        Err(ReadFault::Device) => Err(ShardFault::CannotRead(file)),
     }
 }
 

@@ -16,7 +16,6 @@ use crate::fault::ShardFault;
 use memchr::memrchr;
 use mr_jobs::Job;
 use mr_shards::{Merger, Verdict, cut_first, cut_last, number_of};
-use std::alloc::{AllocError, Global};
 
 /// The pairs that a line states; none if it isn't of the job's form.
 fn pairs_in_line(job: &Job, line: &[u8]) -> Option<u64>
@@ -24,10 +23,8 @@ fn pairs_in_line(job: &Job, line: &[u8]) -> Option<u64>
         (λ n. States job.now line.now n) }
 {
     if job.counts() {
-        match cut_last(line, b'\t') {
-            Some((_, digits)) => number_of(digits),
-            None => None,
-        }
+        let (_, digits) = cut_last(line, b'\t')?;
+        number_of(digits)
     } else if job.has_lines() {
         Some(1)
     } else {
@@ -39,10 +36,7 @@ fn pairs_in_line(job: &Job, line: &[u8]) -> Option<u64>
 pub(crate) fn sum_of(first: Option<u64>, second: Option<u64>) -> Option<u64>
     ensures { IsSumOf first second result }
 {
-    match (first, second) {
-        (Some(m), Some(n)) => m.checked_add(n),
-        _ => None,
-    }
+    first?.checked_add(second?)
 }
 
 /// The pairs that the lines state; none if one isn't of the job's form, or the sum doesn't fit.
@@ -71,17 +65,6 @@ pub(crate) fn whole_lines(bytes: &[u8]) -> usize
     }
 }
 
-/// No pairs yet, of each of so many shards.
-pub(crate) fn no_pairs(alloc: Global, shards: usize) -> Result<Vec<Option<u64>>, AllocError>
-    ensures { IfOk result (λ ts. ts.items ≡ replicate shards (Some 0)) }
-{
-    let mut totals = Vec::new(alloc);
-    for _ in 0..shards {
-        totals.push(Some(0)).map_err(AllocError::from)?;
-    }
-    Ok(totals)
-}
-
 /// Adds the pairs that the merger counted of each shard.
 pub(crate) fn add_pairs(totals: &mut [Option<u64>], merger: &Merger)
     requires { length totals.old ≡ length merger.now.held }
@@ -89,17 +72,6 @@ pub(crate) fn add_pairs(totals: &mut [Option<u64>], merger: &Merger)
 {
     for shard in 0..totals.len() {
         totals[shard] = sum_of(totals[shard], merger.pairs(shard));
-    }
-}
-
-fn expect_pairs(shard: usize, total: Option<u64>, pairs: u64) -> Result<(), ShardFault>
-    ensures ok { OnOk result (total ≡ Some pairs) }
-    ensures err { IfErr result (λ e. (e ≡ other_total shard) × (total ≡ Some pairs → ⊥)) }
-{
-    if total == Some(pairs) {
-        Ok(())
-    } else {
-        Err(ShardFault::OtherTotal { shard })
     }
 }
 
@@ -113,11 +85,8 @@ pub(crate) fn test_total(
     ensures ok { OnOk result (Fits job.now total pairs) }
     ensures err { IfErr result (λ e. (e ≡ other_total shard) × FitsNot job.now total pairs) }
 {
-    if job.counts() {
-        return expect_pairs(shard, total, pairs);
-    }
-    if job.has_lines() {
-        return expect_pairs(shard, total, pairs);
+    if (job.counts() || job.has_lines()) && total != Some(pairs) {
+        return Err(ShardFault::OtherTotal { shard });
     }
     Ok(())
 }

@@ -16,10 +16,10 @@ ghost use Rattle.mr_input.specs.Files.{contents};
 
 use crate::fault::ShardFault;
 use crate::merging::{MergePlan, open_all};
-use crate::pairs::{add_pairs, no_pairs, test_totals};
+use crate::pairs::{add_pairs, test_totals};
 use crate::rounds::merge_partition;
 use crate::sharing::put_verdict;
-use crate::stream::Part;
+use crate::stream::{Part, blamed};
 use mr_files::{Store, WriteFault, part_file, part_name};
 use mr_jobs::{Job, Request};
 use mr_shards::{FileNote, Merger, ShardFiles, Verdict, note_for};
@@ -141,7 +141,7 @@ pub(crate) fn partitions_written<S: Store, T: Threads>(
 {
     let count = request.parts() as usize;
     let mut rows = open_all(store, alloc, plan.names, verdicts, count)?;
-    let mut sums = no_pairs(alloc, verdicts.len())?;
+    let mut sums = vec![in alloc; Some(0); verdicts.len()]?;
     let totals = sums.as_mut_slice();
     put_verdict(store, alloc, plan.out, b"")?;
     let job = request.job();
@@ -171,19 +171,6 @@ pub(crate) struct Made<W: CountedWrite + Drop> {
     hasher: Sha256,
     length: u64,
     late: Vec<u8>,
-}
-
-/// The fault of a failed write.
-pub(crate) fn unwritten(alloc: Global, name: &str, lacked_memory: bool) -> ShardFault
-    ensures { ReportsUnwritten (lacked_memory ≡ false) name.now result }
-{
-    if lacked_memory {
-        return ShardFault::OutOfMemory;
-    }
-    match String::from_str(alloc, name) {
-        Ok(name) => ShardFault::CannotWrite(name),
-        Err(_) => ShardFault::OutOfMemory,
-    }
 }
 
 impl<W: CountedWrite + Drop> Made<W> {
@@ -233,7 +220,7 @@ impl<W: CountedWrite + Drop> Made<W> {
         };
         if write_all(&mut self.writer, self.late.as_slice()).is_err() {
             let lacked = self.writer.is_out_of_memory();
-            return Err(unwritten(alloc, self.name.as_str(), lacked));
+            return Err(ShardFault::CannotWrite(blamed(alloc, self.name.as_str(), lacked)?));
         }
         self.hasher.update(self.late.as_slice());
         self.length = length;
@@ -251,7 +238,7 @@ impl<W: CountedWrite + Drop> Made<W> {
         self.catch_up(alloc)?;
         if self.writer.flush().is_err() {
             let lacked = self.writer.is_out_of_memory();
-            return Err(unwritten(alloc, self.name.as_str(), lacked));
+            return Err(ShardFault::CannotWrite(blamed(alloc, self.name.as_str(), lacked)?));
         }
         Ok(())
     }
@@ -271,20 +258,14 @@ impl<W: CountedWrite + Drop> Made<W> {
     }
 }
 
-fn part_note(alloc: Global, partition: usize, output: &[u8]) -> Result<FileNote, AllocError>
-    ensures { IfOk result (λ n. n ≡ note_telling (file_of_part partition) output.now) }
-{
-    let name = part_file(alloc, partition)?;
-    note_for(alloc, name.as_bytes(), output)
-}
-
 /// The notes of outputs, under the names of parts.
 pub fn part_notes(alloc: Global, outputs: &[Vec<u8>]) -> Result<Vec<FileNote>, AllocError>
     ensures { IfOk result (λ ns. ns.items ≡ notes_for (part_files (length outputs.now)) (contents outputs.now)) }
 {
     let mut notes = Vec::new(alloc);
     for partition in 0..outputs.len() {
-        let note = part_note(alloc, partition, outputs[partition].as_slice())?;
+        let name = part_file(alloc, partition)?;
+        let note = note_for(alloc, name.as_bytes(), outputs[partition].as_slice())?;
         notes.push(note).map_err(AllocError::from)?;
     }
     Ok(notes)

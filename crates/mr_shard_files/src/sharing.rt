@@ -45,34 +45,7 @@ fn add_parts(
     Ok(())
 }
 
-/// The names of the parts in the folders of the verdicts.
-fn names_beside(alloc: Global, names: &[&str], parts: usize) -> Result<Vec<String>, AllocError>
-    ensures { IfOk result (λ all. AreBeside parts (map (λ s. s.now) names.now) (map string_bytes all.items)) }
-{
-    let mut all = Vec::new(alloc);
-    for shard in 0..names.len() {
-        add_parts(alloc, &mut all, folder_of(names[shard]), parts)?;
-    }
-    Ok(all)
-}
-
-/// Adds the names of the verdicts and of the list, if there is one.
-fn add_given(
-    alloc: Global,
-    all: &mut Vec<String>,
-    names: &[&str],
-    list: Option<&str>,
-) -> Result<(), AllocError>
-    ensures { OnOk result (map string_bytes all.new.items ≡ map string_bytes all.old.items
-        ++ names_with (map (λ s. s.now) names.now) (option_map (λ n. n.now) list.entry)) }
-{
-    add_names(alloc, all, names)?;
-    match list {
-        Some(name) => add_names(alloc, all, &[name]),
-        None => Ok(()),
-    }
-}
-
+/// The names of all read files: the parts beside the verdicts, the verdicts, and the list, if any.
 fn names_read(
     alloc: Global,
     names: &[&str],
@@ -82,8 +55,14 @@ fn names_read(
     ensures { IfOk result (λ read. AreRead (map (λ s. s.now) names.now)
         (option_map (λ n. n.now) list.entry) parts (map string_bytes read.items)) }
 {
-    let mut read = names_beside(alloc, names, parts)?;
-    add_given(alloc, &mut read, names, list)?;
+    let mut read = Vec::new(alloc);
+    for shard in 0..names.len() {
+        add_parts(alloc, &mut read, folder_of(names[shard]), parts)?;
+    }
+    add_names(alloc, &mut read, names)?;
+    if let Some(name) = list {
+        add_names(alloc, &mut read, &[name])?;
+    }
     Ok(read)
 }
 

@@ -35,16 +35,6 @@ impl Model for Held {
     ghost invariant = { λ h. h.from ≤ length h.bytes.items };
 }
 
-/// Removes the first bytes; the others move to the front.
-fn cut_front(bytes: &mut Vec<u8>, count: usize)
-    requires { count ≤ length bytes.old.items }
-    ensures { bytes.new.items ≡ drop count bytes.old.items }
-{
-    let left = bytes.len() - count;
-    bytes.as_mut_slice().copy_within(count.., 0);
-    bytes.truncate(left);
-}
-
 impl Held {
     pub fn new(alloc: Global) -> Held
         ensures { result ≡ [] }
@@ -72,8 +62,10 @@ impl Held {
     fn make_room(&mut self)
         ensures { self.new ≡ self.old }
     {
-        if self.from >= self.bytes.len() - self.from {
-            cut_front(&mut self.bytes, self.from);
+        let left = self.bytes.len() - self.from;
+        if self.from >= left {
+            self.bytes.as_mut_slice().copy_within(self.from.., 0);
+            self.bytes.truncate(left);
             self.from = 0;
         }
     }
@@ -113,17 +105,14 @@ fn ends_in(bytes: &[u8], from: usize) -> u8 {
     }
 }
 
-/// The fault of a failed read.
-pub(crate) fn fault_of(alloc: Global, name: &str, lacked_memory: bool) -> ShardFault
-    ensures { ReportsUnread (lacked_memory ≡ false) name.now result }
+/// The name of a file that can't be read or written, unless that lacked memory.
+pub(crate) fn blamed(alloc: Global, name: &str, lacked: bool) -> Result<String, AllocError>
+    ensures { IfOk result (λ n. (string_bytes n ≡ name.now) × (lacked ≡ false)) }
 {
-    if lacked_memory {
-        return ShardFault::OutOfMemory;
+    if lacked {
+        return Err(AllocError);
     }
-    match String::from_str(alloc, name) {
-        Ok(name) => ShardFault::CannotRead(name),
-        Err(_) => ShardFault::OutOfMemory,
-    }
+    String::from_str(alloc, name)
 }
 
 impl<R: CountedRead + Drop> Part<R> {
@@ -168,22 +157,6 @@ impl<R: CountedRead + Drop> Part<R> {
         &bytes[self.digested.min(bytes.len())..]
     }
 
-    fn count(&mut self, piece: usize)
-        ensures counts { (told read : ℕ) → CountsDown told self.old.left self.old.longer read
-            → CountsDown told self.new.left self.new.longer (read + piece) }
-        ensures falls { 0 < piece → no_more self.old ≡ false → unread self.new < unread self.old }
-        ensures longer { self.old.longer ≡ true → self.new.longer ≡ true }
-        ensures same { (self.new.name ≡ self.old.name) × (self.new.reader ≡ self.old.reader)
-            × (self.new.held ≡ self.old.held)
-            × (self.new.hasher ≡ self.old.hasher) × (self.new.digested ≡ self.old.digested)
-            × (self.new.ended ≡ self.old.ended) }
-    {
-        match self.left.checked_sub(piece as u64) {
-            Some(left) => self.left = left,
-            None => self.longer = true,
-        }
-    }
-
     /// Holds a piece; the digest lacks it.
     fn note(&mut self, piece: &[u8]) -> Result<(), AllocError>
         ensures read { OnOk result ((told : ℕ) (bytes : List ℕ) → HasRead told self.old bytes
@@ -196,7 +169,10 @@ impl<R: CountedRead + Drop> Part<R> {
             × (self.new.reader ≡ self.old.reader) × (self.new.ended ≡ self.old.ended)) }
     {
         self.held.push(piece)?;
-        self.count(piece.len());
+        match self.left.checked_sub(piece.len() as u64) {
+            Some(left) => self.left = left,
+            None => self.longer = true,
+        }
         Ok(())
     }
 
@@ -208,7 +184,8 @@ impl<R: CountedRead + Drop> Part<R> {
     {
         let mut buffer = [0u8; PIECE];
         let Ok(count) = self.reader.read(&mut buffer) else {
-            return Err(fault_of(alloc, self.name.as_str(), self.reader.is_out_of_memory()));
+            let lacked = self.reader.is_out_of_memory();
+            return Err(ShardFault::CannotRead(blamed(alloc, self.name.as_str(), lacked)?));
         };
         if count == 0 {
             self.ended = true;
@@ -256,19 +233,6 @@ impl<R: CountedRead + Drop> Part<R> {
         ensures { Moves R.remaining R.can_fail (take count self.old.held) self.old self.new }
     {
         self.digest_held();
-        self.drop_front(count);
-    }
-
-    /// Passes bytes that are all in the digest.
-    fn drop_front(&mut self, count: usize)
-        requires within { count ≤ length self.old.held }
-        ensures held { self.new.held ≡ drop count self.old.held }
-        ensures digested { self.new.digested ≡ length self.new.held }
-        ensures hasher { self.new.hasher ≡ self.old.hasher }
-        ensures counts { (self.new.left ≡ self.old.left) × (self.new.longer ≡ self.old.longer) }
-        ensures same { (self.new.ended ≡ self.old.ended) × (self.new.name ≡ self.old.name)
-            × (self.new.reader ≡ self.old.reader) }
-    {
         self.held.pass(count);
         self.digested = self.held.bytes().len();
     }

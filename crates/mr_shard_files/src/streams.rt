@@ -28,18 +28,14 @@ pub(crate) fn fill_all<R: CountedRead + Drop>(
     Ok(())
 }
 
-fn longest_held<R: CountedRead + Drop>(parts: &[Part<R>]) -> usize {
+/// A round reads at least this share of the longest window. A long line is scanned in each round
+/// that it waits, so its rounds must be few; all shares together are no longer than that window.
+pub(crate) fn share_of<R: CountedRead + Drop>(parts: &[Part<R>]) -> usize {
     let mut longest = 0;
     for part in parts {
         longest = part.bytes().len().max(longest);
     }
-    longest
-}
-
-/// A round reads at least this share of the longest window. A long line is scanned in each round
-/// that it waits, so its rounds must be few; all shares together are no longer than that window.
-pub(crate) fn share_of<R: CountedRead + Drop>(parts: &[Part<R>]) -> usize {
-    longest_held(parts) / parts.len().max(1)
+    longest / parts.len().max(1)
 }
 
 pub(crate) fn are_done<R: CountedRead + Drop>(parts: &[Part<R>]) -> bool
@@ -53,16 +49,6 @@ pub(crate) fn are_done<R: CountedRead + Drop>(parts: &[Part<R>]) -> bool
     true
 }
 
-fn keep<'a>(windows: &mut Vec<Window<'a>>, bytes: &'a [u8], is_last: bool) -> Result<(), AllocError>
-    ensures { OnOk result (windows.new.items
-        ≡ windows.old.items ++ record { bytes = bytes.entry; is_last = is_last } ∷ []) }
-{
-    windows
-        .push(Window { bytes, is_last })
-        .map_err(AllocError::from)?;
-    Ok(())
-}
-
 pub(crate) fn windows_of<'a, R: CountedRead + Drop>(
     alloc: Global,
     parts: &'a [Part<R>],
@@ -72,7 +58,11 @@ pub(crate) fn windows_of<'a, R: CountedRead + Drop>(
     let mut windows = Vec::new(alloc);
     for shard in 0..parts.len() {
         let part = &parts[shard];
-        keep(&mut windows, part.bytes(), part.is_done())?;
+        let window = Window {
+            bytes: part.bytes(),
+            is_last: part.is_done(),
+        };
+        windows.push(window).map_err(AllocError::from)?;
     }
     Ok(windows)
 }
@@ -87,21 +77,6 @@ pub(crate) fn pass_all<R: CountedRead + Drop>(parts: &mut [Part<R>], cuts: &[usi
     }
 }
 
-/// Whether the part, read as far as allowed, is the one in the verdict.
-fn has_note<R: CountedRead + Drop>(
-    part: &Part<R>,
-    verdict: &Verdict,
-    partition: usize,
-) -> Result<bool, AllocError>
-    ensures { IfOk result (λ b. (bytes : List ℕ) → HasRead (length_told partition verdict.now) part.now bytes
-        → IsTrue b ↔ ReportsCause partition verdict.now bytes) }
-{
-    match verdict.outputs.get(partition) {
-        Some(note) => part.has_digest(&note.digest),
-        None => Ok(false),
-    }
-}
-
 /// Reads the part to its end, and returns whether it is the one in the verdict.
 pub(crate) fn settle<R: CountedRead + Drop>(
     alloc: Global,
@@ -113,7 +88,10 @@ pub(crate) fn settle<R: CountedRead + Drop>(
     ensures err { IfErr result (ReportsUnread (R.can_fail part.old.reader) (string_bytes part.old.name)) }
 {
     part.finish(alloc)?;
-    Ok(has_note(part, verdict, partition)?)
+    match verdict.outputs.get(partition) {
+        Some(note) => Ok(part.has_digest(&note.digest)?),
+        None => Ok(false),
+    }
 }
 
 /// Reads all parts to their ends, in order, and reports the first that is not its verdict's.

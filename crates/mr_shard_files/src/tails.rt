@@ -26,13 +26,6 @@ fn tail_of<'a, R: CountedRead + Drop>(part: &'a Part<R>) -> Tail<'a>
     }
 }
 
-fn keep_tail<'a>(tails: &mut Vec<Tail<'a>>, tail: Tail<'a>) -> Result<(), AllocError>
-    ensures { OnOk result (tails.new.items ≡ tails.old.items ++ tail.entry ∷ []) }
-{
-    tails.push(tail).map_err(AllocError::from)?;
-    Ok(())
-}
-
 pub(crate) fn tails_of<'a, R: CountedRead + Drop>(
     alloc: Global,
     parts: &'a [Part<R>],
@@ -43,24 +36,9 @@ pub(crate) fn tails_of<'a, R: CountedRead + Drop>(
     let mut tails = Vec::new(alloc);
     for shard in 0..parts.len() {
         let part = &parts[shard];
-        keep_tail(&mut tails, tail_of(part))?;
+        tails.push(tail_of(part)).map_err(AllocError::from)?;
     }
     Ok(tails)
-}
-
-fn taken(tail: Tail<'_>) -> Result<Sha256, AllocError>
-    ensures { IfOk result (HasMore tail.entry.hasher.now tail.entry.bytes.now) }
-{
-    let mut hasher = tail.hasher.clone()?;
-    hasher.update(tail.bytes);
-    Ok(hasher)
-}
-
-fn keep_hasher(hashers: &mut Vec<Sha256>, hasher: Sha256) -> Result<(), AllocError>
-    ensures { OnOk result (hashers.new.items ≡ hashers.old.items ++ hasher ∷ []) }
-{
-    hashers.push(hasher).map_err(AllocError::from)?;
-    Ok(())
 }
 
 /// The digests with the bytes that they lacked.
@@ -69,8 +47,10 @@ pub(crate) fn all_taken(alloc: Global, tails: &[Tail<'_>]) -> Result<Vec<Sha256>
 {
     let mut hashers = Vec::new(alloc);
     for shard in 0..tails.len() {
-        let hasher = taken(tails[shard])?;
-        keep_hasher(&mut hashers, hasher)?;
+        let tail = &tails[shard];
+        let mut hasher = tail.hasher.clone()?;
+        hasher.update(tail.bytes);
+        hashers.push(hasher).map_err(AllocError::from)?;
     }
     Ok(hashers)
 }
@@ -105,14 +85,6 @@ pub(crate) fn taken_of_both(
     Ok(all)
 }
 
-fn keep_one<R: CountedRead + Drop>(part: &mut Part<R>, hasher: &Sha256) -> Result<(), AllocError>
-    requires { HasMore part.old.hasher (drop part.old.digested part.old.held) hasher.now }
-    ensures { OnOk result (IsDigested part.old part.new) }
-{
-    part.keep_digest(hasher.clone()?);
-    Ok(())
-}
-
 pub(crate) fn keep_all<R: CountedRead + Drop>(
     parts: &mut [Part<R>],
     hashers: &[Sha256],
@@ -122,7 +94,7 @@ pub(crate) fn keep_all<R: CountedRead + Drop>(
 {
     for shard in 0..parts.len() {
         let part = &mut parts[shard];
-        keep_one(part, &hashers[shard])?;
+        part.keep_digest(hashers[shard].clone()?);
     }
     Ok(())
 }

@@ -26,11 +26,11 @@ use crate::rounds::WINDOW;
 use crate::stream::Part;
 use crate::streams::settle;
 use mr_files::{Store, read_range_within, verdict_name};
-use mr_jobs::{Job, Request};
+use mr_jobs::Job;
 use mr_shards::{FileRange, Verdict, request_of};
 use mr_store::CountedRead;
 use sha2::{Digest, Sha256};
-use std::alloc::Global;
+use std::alloc::{AllocError, Global};
 use std::str;
 
 /// What is tested.
@@ -168,62 +168,15 @@ fn test_ranges<S: Store>(store: &S, alloc: Global, ranges: &[FileRange]) -> Resu
     Ok(())
 }
 
-/// The verdict's request. There is an output for each of its partitions.
-fn request_for(alloc: Global, verdict: &Verdict) -> Result<Request, ShardFault>
-    ensures asks { IfOk result (λ r. Asks verdict.now r) }
-    ensures outputs { IfOk result (λ r. length verdict.now.outputs ≡ r.parts) }
-    ensures err { IfErr result (IsAboutNone verdict.now) }
+/// The name beside which the parts lie.
+fn name_beside(alloc: Global, plan: &VerifyPlan<'_>) -> Result<String, AllocError>
+    ensures { IfOk result (λ b. string_bytes b
+        ≡ beside_name plan.now.verdict.now (option_map (λ n. n.now) plan.now.out)) }
 {
-    let Some(request) = request_of(alloc, verdict)? else {
-        return Err(ShardFault::NoRequest);
-    };
-    if verdict.outputs.len() != request.parts() as usize {
-        return Err(ShardFault::OtherOutputs { shard: 0 });
+    match plan.out {
+        Some(dir) => verdict_name(alloc, dir),
+        None => String::from_str(alloc, plan.verdict),
     }
-    Ok(request)
-}
-
-/// The files are those of the verdict.
-fn test_verdict<S: Store>(
-    store: &S,
-    alloc: Global,
-    verdict: &Verdict,
-    beside: &str,
-    inputs: bool,
-) -> Result<(), ShardFault>
-    ensures ok { OnOk result (IsTrueBeside (S.holds store.now) beside.now inputs verdict.now) }
-    ensures err { IfErr result
-        (IsUntrue (S.holds store.now) (S.unreadable store.now) beside.now inputs verdict.now) }
-{
-    let request = request_for(alloc, verdict)?;
-    let job = request.job();
-    let total = test_parts(store, alloc, job, beside, verdict)?;
-    test_total(job, 0, total, verdict.pairs)?;
-    if inputs {
-        test_ranges(store, alloc, verdict.inputs.as_slice())
-    } else {
-        Ok(())
-    }
-}
-
-/// The same for the files of the plan.
-fn test_plan<S: Store>(
-    store: &S,
-    alloc: Global,
-    plan: &VerifyPlan<'_>,
-    verdict: &Verdict,
-) -> Result<(), ShardFault>
-    ensures ok { OnOk result (IsTrueBeside (S.holds store.now) (beside_name plan.now.verdict.now
-        (option_map (λ n. n.now) plan.now.out)) plan.now.inputs verdict.now) }
-    ensures err { IfErr result (λ e. (e ≡ no_memory) ⊎ IsUntrue (S.holds store.now)
-        (S.unreadable store.now) (beside_name plan.now.verdict.now
-        (option_map (λ n. n.now) plan.now.out)) plan.now.inputs verdict.now e) }
-{
-    let Some(dir) = plan.out else {
-        return test_verdict(store, alloc, verdict, plan.verdict, plan.inputs);
-    };
-    let beside = verdict_name(alloc, dir)?;
-    test_verdict(store, alloc, verdict, beside.as_str(), plan.inputs)
 }
 
 /// Tests a result against its verdict, which it returns. Each part has the length and the digest
@@ -240,6 +193,18 @@ pub fn verify_result<S: Store>(
         plan.now.verdict.now (option_map (λ n. n.now) plan.now.out) plan.now.inputs) }
 {
     let verdict = verdict_under(store, alloc, plan.verdict, 0)?;
-    test_plan(store, alloc, plan, &verdict)?;
+    let beside = name_beside(alloc, plan)?;
+    let Some(request) = request_of(alloc, &verdict)? else {
+        return Err(ShardFault::NoRequest);
+    };
+    if verdict.outputs.len() != request.parts() as usize {
+        return Err(ShardFault::OtherOutputs { shard: 0 });
+    }
+    let job = request.job();
+    let total = test_parts(store, alloc, job, beside.as_str(), &verdict)?;
+    test_total(job, 0, total, verdict.pairs)?;
+    if plan.inputs {
+        test_ranges(store, alloc, verdict.inputs.as_slice())?;
+    }
     Ok(verdict)
 }

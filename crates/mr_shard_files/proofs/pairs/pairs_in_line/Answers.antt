@@ -3,11 +3,13 @@ use Rattle.std.specs.Prelude.{IfSome}
 use Rattle.mr_shard_files.proofs.PairLemmas.{none_without, number_stated}
 use Rattle.mr_shard_files.proofs.pairs.pairs_in_line.Goals as goal
 
-pub returns-in-Some : goal.returns-in-Some
-returns-in-Some c =
+pub returns-in_ok-digits : goal.returns-in_ok-digits
+returns-in_ok-digits c =
     let small : IfSome c.number_of.result (λ n. n < 2 ^ 64) = search rules in
-    number_stated c.args.job.now c.args.line.now c.in-Some.field-0-0.now c.in-Some.digits.now c.number_of.result (sym c.counts.ensures ∙ c.if-counts.true) c.in-Some.ensures.0 c.in-Some.ensures.1
+    let cut = c.in_ok-digits.ensures in
+    number_stated c.args.job.now c.args.line.now c.in_ok-digits.field-0-0.now c.in_ok-digits.digits.now c.number_of.result (sym c.counts.ensures ∙ c.if-counts.true) cut.0 cut.1
     small c.number_of.ensures
 
-pub returns-in-None : goal.returns-in-None
-returns-in-None c = none_without c.args.job.now c.args.line.now (sym c.counts.ensures ∙ c.if-counts.true) c.in-None.ensures
+pub returns-in_err-digits : goal.returns-in_err-digits
+returns-in_err-digits c =
+    rw c.from_residual.ensures (none_without c.args.job.now c.args.line.now (sym c.counts.ensures ∙ c.if-counts.true) c.in_err-digits.ensures)

@@ -1,4 +1,5 @@
-use Rattle.std.proofs.Common.{◌≡◌, ◌∷◌, ◌++◌, [], ◌∙◌, ap, get_or, rules, sym}
+use Rattle.std.proofs.Common.{◌≡◌, ◌∷◌, ◌++◌, [], ◌∙◌, List, ℕ, ap, get_or, rules, subst, sym}
+use Rattle.mr_shards.specs.Truth.{note_for}
 use Rattle.mr_shard_files.proofs.NoteLemmas.{notes_none, notes_pushed}
 use Rattle.mr_shard_files.proofs.partition.part_notes.Goals as goal
 
@@ -11,4 +12,5 @@ loop-partition-preserved c =
     let d = c.index-outputs-partition.result in
     let text : c.as_slice.result.now ≡ (get_or c.args.outputs.now i d).items = c.as_slice.ensures.value ∙ ap (λ o. o.items) c.index-outputs-partition.is in
     let pushed : c.push.new.self.items ≡ c.loop-partition.notes.items ++ c.in_ok-note.note ∷ [] = search rules in
-    notes_pushed c.args.outputs.now i d c.loop-partition.notes.items c.push.new.self.items c.in_ok-note.note c.as_slice.result.now c.loop-partition-test.true text c.in_ok-note.ensures pushed c.loop-partition.invariant
+    let named = subst (λ (f : List ℕ). c.in_ok-note.note ≡ note_for f c.as_slice.result.now) (c.as_bytes.ensures.value ∙ c.in_ok-name.ensures) c.in_ok-note.ensures in
+    notes_pushed c.args.outputs.now i d c.loop-partition.notes.items c.push.new.self.items c.in_ok-note.note c.as_slice.result.now c.loop-partition-test.true text named pushed c.loop-partition.invariant

@@ -29,7 +29,7 @@ loop-partition-init g c =
     let dir = c.args.plan.now.out.now in
     let names = map (λ s. s.now) c.args.plan.now.names.now in
     let vs = c.args.verdicts.now in
-    let none : replicate (length vs) (Some 0) ≡ c.as_mut_slice-totals.result.now = sym (c.as_mut_slice-totals.ensures.value ∙ c.in_ok-sums.ensures) in
+    let none : replicate (length vs) (Some 0) ≡ c.as_mut_slice-totals.result.now = sym (c.as_mut_slice-totals.ensures.value ∙ c.in_ok-sums.ensures.items_if_clones_equal (λ y k. search rules)) in
     record {
       texts = [];
       count = refl;

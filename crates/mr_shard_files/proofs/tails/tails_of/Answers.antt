@@ -1,4 +1,4 @@
-use Rattle.std.proofs.Common.{subst, arith}
+use Rattle.std.proofs.Common.{◌≡◌, ◌∷◌, ◌++◌, [], subst, rules, arith}
 use Rattle.std.proofs.lemmas.List.{take_all}
 use Rattle.mr_shard_files.specs.Streams.{AreTailsOf}
 use Rattle.mr_shard_files.proofs.TailLemmas.{tails_next, tails_taken}
@@ -7,8 +7,10 @@ use Rattle.mr_shard_files.proofs.tails.tails_of.Goals as goal
 pub loop-shard-preserved : goal.loop-shard-preserved
 loop-shard-preserved g c =
     let q = c.index-parts-shard.result in
-    tails_next c.args.parts.now c.loop-shard.shard q q c.loop-shard.tails.items c.keep_tail.new.tails.items c.tail_of.result c.loop-shard-test.true c.index-parts-shard.is c.tail_of.ensures.hasher c.tail_of.ensures.bytes
-    c.in_ok-keep_tail.ensures c.loop-shard.invariant
+    let t = c.tail_of.result in
+    let pushed : c.push.new.self.items ≡ c.loop-shard.tails.items ++ t ∷ [] = search rules in
+    tails_next c.args.parts.now c.loop-shard.shard q q c.loop-shard.tails.items c.push.new.self.items t c.loop-shard-test.true c.index-parts-shard.is c.tail_of.ensures.hasher c.tail_of.ensures.bytes
+    pushed c.loop-shard.invariant
 
 pub returns-clause-next : goal.returns-clause-next
 returns-clause-next g c hs a =
