@@ -3,7 +3,7 @@ ghost use Rattle.std.specs.Prelude.{◌≡◌};
 ghost use Rattle.mr_shard_files.specs.Told.{told_of_merge, told_of_range, told_of_verdict};
 
 use mr_files::{FileFault, RangeFault};
-use mr_shards::{JoinFault, MergeFault, VerdictFault};
+use mr_shards::{JoinFault, MergeFault};
 use std::alloc::AllocError;
 use thiserror::Error;
 
@@ -169,16 +169,6 @@ impl From<JoinFault> for ShardFault {
             JoinFault::PlaceTooFar { shard } => ShardFault::FarPlace { shard },
             JoinFault::OutOfMemory => ShardFault::OutOfMemory,
         }
-    }
-}
-
-pub(crate) fn of_verdict(shard: usize, fault: VerdictFault) -> ShardFault
-    ensures { result ≡ told_of_verdict shard fault }
-{
-    match fault {
-        VerdictFault::BadLine { line } => ShardFault::BadVerdict { shard, line },
-        VerdictFault::OldVerdict => ShardFault::OldVerdict { shard },
-        VerdictFault::OutOfMemory => ShardFault::OutOfMemory,
     }
 }
 

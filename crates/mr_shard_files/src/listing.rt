@@ -15,12 +15,12 @@ ghost use Rattle.mr_shard_files.specs.Merging.{AreHeard, IsHeard};
 ghost use Rattle.mr_shards.specs.Joined.{IsNearRange};
 ghost use Rattle.std.specs.List.{AllByRecursion};
 
-use crate::fault::{ShardFault, of_verdict};
+use crate::fault::ShardFault;
 use hex::encode_to_slice;
 use itoa::Buffer;
 use mr_files::{LimitFault, Store, read_file_within};
 use mr_lanes::first_difference;
-use mr_shards::{FileRange, Verdict, read_verdict};
+use mr_shards::{FileRange, Verdict, VerdictFault, read_verdict};
 use std::alloc::{AllocError, Global};
 
 fn put_byte(byte: u8, out: &mut Vec<u8>) -> Result<(), AllocError>
@@ -129,7 +129,7 @@ pub(crate) fn expect_listed<S: Store>(
     let Some(name) = list else {
         return Ok(());
     };
-    let given = match read_file_within(store, alloc, name, MAX_TEXT_BYTES) {
+    let given = match read_file_within(store, alloc, name, MAX_BYTES) {
         Ok(text) => text,
         Err(LimitFault::TooLong) => return Err(ShardFault::LongList),
         Err(LimitFault::File(fault)) => return Err(ShardFault::from(fault)),
@@ -143,11 +143,11 @@ pub(crate) fn expect_listed<S: Store>(
     Err(ShardFault::OtherInputs { line })
 }
 
-/// The most bytes of a verdict or of a list of inputs: 1 GiB.
-pub const MAX_TEXT_BYTES: u64 = 1_073_741_824;
+/// The most bytes of a verdict, of a list of inputs, or of a range of the input: 1 GiB.
+pub(crate) const MAX_BYTES: u64 = 1_073_741_824;
 
 // The clauses have this number.
-const _: () = prove!(MAX_TEXT_BYTES == 1_073_741_824);
+const _: () = prove!(MAX_BYTES == 1_073_741_824);
 
 /// The verdict of that name, of the shard of that number.
 pub(crate) fn verdict_under<S: Store>(
@@ -159,14 +159,16 @@ pub(crate) fn verdict_under<S: Store>(
     ensures ok { IfOk result (λ v. IsHeard (S.holds store.now) name.now v) }
     ensures err { IfErr result (IsUnheard (S.holds store.now) (S.unreadable store.now) shard name.now) }
 {
-    let text = match read_file_within(store, alloc, name, MAX_TEXT_BYTES) {
+    let text = match read_file_within(store, alloc, name, MAX_BYTES) {
         Ok(text) => text,
         Err(LimitFault::TooLong) => return Err(ShardFault::LongVerdict { shard }),
         Err(LimitFault::File(fault)) => return Err(ShardFault::from(fault)),
     };
     match read_verdict(alloc, text.as_slice()) {
         Ok(verdict) => Ok(verdict),
-        Err(fault) => Err(of_verdict(shard, fault)),
+        Err(VerdictFault::BadLine { line }) => Err(ShardFault::BadVerdict { shard, line }),
+        Err(VerdictFault::OldVerdict) => Err(ShardFault::OldVerdict { shard }),
+        Err(VerdictFault::OutOfMemory) => Err(ShardFault::OutOfMemory),
     }
 }
 

@@ -228,16 +228,6 @@ pub fn merge_shards<S: Store, T: Threads>(
     Ok(merged)
 }
 
-/// The output's length in the verdict; 0 if it lists no such output.
-fn length_in(verdict: &Verdict, partition: usize) -> u64
-    ensures { result ≡ length_of partition verdict.now }
-{
-    match verdict.outputs.get(partition) {
-        Some(note) => note.length,
-        None => 0,
-    }
-}
-
 pub(crate) fn open_part<S: Store>(
     store: &S,
     alloc: Global,
@@ -253,7 +243,7 @@ pub(crate) fn open_part<S: Store>(
     let file = part_name(alloc, folder_of(name), partition)?;
     match store.reader(alloc, file.as_str()) {
         Ok(reader) => {
-            let length = length_in(verdict, partition);
+            let length = verdict.outputs.get(partition).map_or(0, |note| note.length);
             Ok(Part::new(alloc, file, reader, length))
         }
         Err(ReadFault::OutOfMemory) => Err(ShardFault::OutOfMemory),

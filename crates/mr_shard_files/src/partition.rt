@@ -14,15 +14,16 @@ ghost use Rattle.mr_shard_files.specs.Merging.{AreAllWritten};
 ghost use Rattle.mr_shard_files.specs.Streams.{IsJoinedTo, IsNotJoined};
 ghost use Rattle.mr_input.specs.Files.{contents};
 
-use crate::fault::ShardFault;
+use crate::fault::{ShardFault, of_merge};
 use crate::merging::{MergePlan, open_all};
 use crate::pairs::{add_pairs, test_totals};
-use crate::rounds::merge_partition;
+use crate::rounds::{Stop, merge_rounds};
 use crate::sharing::put_verdict;
 use crate::stream::{Part, blamed};
+use crate::streams::settle_all;
 use mr_files::{Store, WriteFault, part_file, part_name};
 use mr_jobs::{Job, Request};
-use mr_shards::{FileNote, Merger, ShardFiles, Verdict, note_for};
+use mr_shards::{FileNote, MergeFault, Merger, ShardFiles, Verdict, note_for};
 use mr_store::{CountedRead, CountedWrite, write_all};
 use sha2::{Digest, Sha256};
 use std::alloc::{AllocError, Global};
@@ -61,8 +62,10 @@ pub(crate) struct PartMerge<'a> {
     pub partition: usize,
 }
 
-/// Merges a partition's parts while it reads them, writes and flushes the text, and returns its
-/// note, and the merger, which has counted the pairs of each part.
+/// Merges a partition's parts while it reads them, compares each, read to its end, with its verdict,
+/// and writes and flushes the text. Returns its note, and the merger, which has counted the pairs of
+/// each part. If the parts can't be merged, it still reads them to their ends: it reports a wrong
+/// part rather than a bad line.
 fn part_filled<R: CountedRead + Drop, W: CountedWrite + Drop, T: Threads>(
     rt: &T,
     alloc: Global,
@@ -81,9 +84,24 @@ fn part_filled<R: CountedRead + Drop, W: CountedWrite + Drop, T: Threads>(
         ⊎ ReportsUnwritten (W.can_fail made.old.writer) (string_bytes made.old.name) e) }
     ensures name { made.new.name ≡ made.old.name }
 {
-    let merger = merge_partition(rt, alloc, merge, parts, made)?;
+    let PartMerge {
+        job,
+        files,
+        verdicts,
+        partition,
+    } = *merge;
+    let merger = match merge_rounds(rt, alloc, job, files, parts, made) {
+        Ok(merger) => merger,
+        Err(Stop::Part(fault)) => return Err(fault),
+        Err(Stop::Merge(MergeFault::OutOfMemory)) => return Err(ShardFault::OutOfMemory),
+        Err(Stop::Merge(fault)) => {
+            settle_all(alloc, parts, verdicts, partition)?;
+            return Err(of_merge(partition, fault));
+        }
+    };
+    settle_all(alloc, parts, verdicts, partition)?;
     made.flush(alloc)?;
-    Ok((made.note(alloc, merge.partition)?, merger))
+    Ok((made.note(alloc, partition)?, merger))
 }
 
 /// As `part_filled`, to the part of the result, which it opens and closes.

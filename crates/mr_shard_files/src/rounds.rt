@@ -12,11 +12,11 @@ ghost use Rattle.mr_shard_files.specs.Streams.{IsJoinedTo, IsNotBeside, IsNotJoi
 ghost use Rattle.mr_shard_files.specs.Streams.{IsStopped, IsStoppedAt, MergesHeld, Moves, Refuses, TakesRound};
 ghost use Rattle.mr_shard_files.specs.Made.{CatchesUp, HasWritten, ReportsUnwritten};
 
-use crate::fault::{ShardFault, of_merge};
-use crate::partition::{Made, PartMerge};
+use crate::fault::ShardFault;
+use crate::partition::Made;
 use crate::stream::Part;
-use crate::streams::{are_done, fill_all, pass_all, settle_all, share_of, windows_of};
-use crate::tails::{all_taken, keep_all, middle_of, tails_of, taken_of_both};
+use crate::streams::{are_done, fill_all, pass_all, share_of, windows_of};
+use crate::tails::{all_taken, keep_all, middle_of, tails_of};
 use mr_jobs::Job;
 use mr_shards::{MergeFault, Merger, ShardFiles, Window};
 use mr_store::{CountedRead, CountedWrite};
@@ -154,8 +154,10 @@ fn merge_beside<R: CountedRead + Drop, W: CountedWrite + Drop, T: Threads>(
         ensures name { made.exit.now.name ≡ made.entry.now.name }
     { merge_beside_one(rt, alloc, job, windows, back, made, merger) };
     let (first, rest) = thread::join_mut(rt, &mut digesting, &mut stepping);
-    let rest = rest?;
-    Ok(taken_of_both(first?, rest)?)
+    let mut rest = rest?;
+    let mut digests = first?;
+    digests.append(&mut rest).map_err(AllocError::from)?;
+    Ok(digests)
 }
 
 /// Reads some of each part, and merges what it can of what is held. Writes what the round before
@@ -215,45 +217,4 @@ pub(crate) fn merge_rounds<R: CountedRead + Drop, W: CountedWrite + Drop, T: Thr
     }
     // No machine has the memory for what more rounds than 64 bits count would merge.
     Err(Stop::Part(ShardFault::OutOfMemory))
-}
-
-/// Merges parts while it reads them, writes the text, and compares each part, read to its end, with
-/// its verdict. The merger has counted their pairs. If they can't be merged, it still reads them to
-/// their ends: it reports a wrong part rather than a bad line.
-pub(crate) fn merge_partition<R: CountedRead + Drop, W: CountedWrite + Drop, T: Threads>(
-    rt: &T,
-    alloc: Global,
-    merge: &PartMerge<'_>,
-    parts: &mut [Part<R>],
-    made: &mut Made<W>,
-) -> Result<Merger, ShardFault>
-    requires files { length merge.now.files.now ≡ length parts.old }
-    requires count { length parts.old ≡ length merge.now.verdicts.now }
-    requires fresh { HasWritten W.seen [] made.old }
-    ensures ok { IfOk result (λ m. (text : List ℕ)
-        × IsJoinedTo R.remaining R.can_fail merge.now parts.old text m.held
-        × HasWritten W.seen text made.new) }
-    ensures err { IfErr result (λ e. IsNotJoined R.remaining R.can_fail merge.now parts.old e
-        ⊎ ReportsUnwritten (W.can_fail made.old.writer) (string_bytes made.old.name) e) }
-    ensures later { W.can_fail made.new.writer → W.can_fail made.old.writer }
-    ensures name { made.new.name ≡ made.old.name }
-{
-    let PartMerge {
-        job,
-        files,
-        verdicts,
-        partition,
-    } = *merge;
-    match merge_rounds(rt, alloc, job, files, parts, made) {
-        Ok(merger) => {
-            settle_all(alloc, parts, verdicts, partition)?;
-            Ok(merger)
-        }
-        Err(Stop::Part(fault)) => Err(fault),
-        Err(Stop::Merge(MergeFault::OutOfMemory)) => Err(ShardFault::OutOfMemory),
-        Err(Stop::Merge(fault)) => {
-            settle_all(alloc, parts, verdicts, partition)?;
-            Err(of_merge(partition, fault))
-        }
-    }
 }

@@ -157,25 +157,6 @@ impl<R: CountedRead + Drop> Part<R> {
         &bytes[self.digested.min(bytes.len())..]
     }
 
-    /// Holds a piece; the digest lacks it.
-    fn note(&mut self, piece: &[u8]) -> Result<(), AllocError>
-        ensures read { OnOk result ((told : ℕ) (bytes : List ℕ) → HasRead told self.old bytes
-            → HasRead told self.new (bytes ++ piece.now)) }
-        ensures held { OnOk result (self.new.held ≡ self.old.held ++ piece.now) }
-        ensures falls { OnOk result (0 < length piece.now → no_more self.old ≡ false
-            → unread self.new < unread self.old) }
-        ensures longer { OnOk result (self.old.longer ≡ true → self.new.longer ≡ true) }
-        ensures same { OnOk result ((self.new.name ≡ self.old.name)
-            × (self.new.reader ≡ self.old.reader) × (self.new.ended ≡ self.old.ended)) }
-    {
-        self.held.push(piece)?;
-        match self.left.checked_sub(piece.len() as u64) {
-            Some(left) => self.left = left,
-            None => self.longer = true,
-        }
-        Ok(())
-    }
-
     fn read_piece(&mut self, alloc: Global) -> Result<(), ShardFault>
         requires { no_more self.old ≡ false }
         ensures moves { OnOk result (Moves R.remaining R.can_fail [] self.old self.new) }
@@ -191,7 +172,11 @@ impl<R: CountedRead + Drop> Part<R> {
             self.ended = true;
             return Ok(());
         }
-        self.note(&buffer[..count])?;
+        self.held.push(&buffer[..count])?;
+        match self.left.checked_sub(count as u64) {
+            Some(left) => self.left = left,
+            None => self.longer = true,
+        }
         Ok(())
     }
 

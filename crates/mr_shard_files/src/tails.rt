@@ -74,17 +74,6 @@ pub(crate) fn middle_of<R: CountedRead + Drop>(parts: &[Part<R>], late: usize) -
     low
 }
 
-pub(crate) fn taken_of_both(
-    front: Vec<Sha256>,
-    back: Vec<Sha256>,
-) -> Result<Vec<Sha256>, AllocError>
-    ensures { IfOk result (λ hs. hs.items ≡ front.items ++ back.items) }
-{
-    let (mut all, mut back) = (front, back);
-    all.append(&mut back).map_err(AllocError::from)?;
-    Ok(all)
-}
-
 pub(crate) fn keep_all<R: CountedRead + Drop>(
     parts: &mut [Part<R>],
     hashers: &[Sha256],

@@ -19,7 +19,7 @@ ghost use Rattle.mr_shard_files.specs.Verified.{IsUntrue, IsUnverified, IsVerifi
 ghost use Rattle.mr_shard_files.specs.Verified.{beside_name};
 
 use crate::fault::{ShardFault, of_range};
-use crate::listing::verdict_under;
+use crate::listing::{MAX_BYTES, verdict_under};
 use crate::merging::open_part;
 use crate::pairs::{pairs_in, sum_of, test_total, whole_lines};
 use crate::rounds::WINDOW;
@@ -121,12 +121,6 @@ fn test_parts<S: Store>(
     Ok(total)
 }
 
-/// The most bytes of a range: an execution takes no more.
-const MOST_BYTES: u64 = 1_073_741_824;
-
-// The clauses have this number.
-const _: () = prove!(MOST_BYTES == 1_073_741_824);
-
 /// The range's bytes are those of its note.
 fn test_range<S: Store>(
     store: &S,
@@ -144,7 +138,7 @@ fn test_range<S: Store>(
     let Some(end) = range.from.checked_add(range.length) else {
         return Err(ShardFault::OtherInput { input });
     };
-    match read_range_within(store, alloc, name, range.from, Some(end), MOST_BYTES) {
+    match read_range_within(store, alloc, name, range.from, Some(end), MAX_BYTES) {
         Ok((bytes, _)) => {
             let digest = Sha256::digest(bytes.as_slice());
             if digest.as_slice() == range.digest.as_slice() {

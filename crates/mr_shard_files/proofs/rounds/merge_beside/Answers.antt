@@ -1,4 +1,4 @@
-use Rattle.std.proofs.Common.{rules, ◌∙◌, ◌++◌, ap, length, string_bytes, subst, sym}
+use Rattle.std.proofs.Common.{◌≡◌, rules, ◌∙◌, ◌++◌, ap, length, string_bytes, subst, sym}
 use Rattle.std.specs.Prelude.{IfErr, IfOk}
 use Rattle.std.proofs.lemmas.Result.{IfErr-at_err, IfOk-at_ok, err_from_is_err_and}
 use Rattle.mr_shard_files.specs.Made.{ReportsUnwritten}
@@ -26,12 +26,12 @@ pub returns-clause-digests : goal.returns-clause-digests
 returns-clause-digests g c =
     let front = c.split_at.result.0.now in
     let back = c.split_at.result.1.now in
-    let hs = c.in_ok-first.field-0.items in
+    let hs = c.in_ok-digests.digests.items in
     let ks = c.in_ok-rest.rest.items in
     let digested : IfOk c.join_mut-first.result.0 (λ v. AreTaken c.as_slice-lacking.result.now v.items) = search rules in
-    let taken = IfOk-at_ok (λ v. AreTaken c.as_slice-lacking.result.now v.items) c.in_ok-first.was digested in
+    let taken = IfOk-at_ok (λ v. AreTaken c.as_slice-lacking.result.now v.items) c.in_ok-digests.was digested in
     let first = c.in_ok-tails.ensures.next hs (subst (λ ts. AreTaken ts hs) c.as_slice-lacking.ensures.value taken) in
     let stepped : IfOk c.join_mut-first.result.1 (λ v. AreNext back v.items) = search rules in
     let second = IfOk-at_ok (λ v. AreNext back v.items) c.in_ok-rest.was stepped in
-    subst (λ qs. AreNext qs c.in_ok-taken_of_both.field-0.items) (sym c.split_at.ensures.by_index.0)
-    (subst (AreNext (front ++ back)) (sym c.in_ok-taken_of_both.ensures) (next_both front back hs ks first second))
+    let both : c.append.new.self.items ≡ hs ++ ks = search rules in
+    subst (λ qs. AreNext qs c.append.new.self.items) (sym c.split_at.ensures.by_index.0) (subst (AreNext (front ++ back)) (sym both) (next_both front back hs ks first second))
