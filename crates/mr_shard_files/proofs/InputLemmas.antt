@@ -1,12 +1,14 @@
 -- Inputs that tile files, and begin no file twice.
-use Rattle.std.proofs.Common.{◌≡◌, ℕ, zero, suc, ◌+◌, ◌<◌, ◌≤◌, ◌^◌, Bool, true, false, cond, List, [], ◌∷◌, ◌++◌, length, take, refl, ap, sym, ◌∙◌, subst, arith}
+use Rattle.std.proofs.Common.{◌≡◌, ℕ, zero, suc, ◌+◌, ◌<◌, ◌≤◌, ◌^◌, Bool, true, false, cond, List, [], ◌∷◌, ◌++◌, length, take, refl, ap, sym, ◌∙◌, subst, arith, ◌⊎◌, inl, inr, Option, Some, None}
+use Rattle.std.proofs.Math.Nat.{eq-or-lt_of_le}
+use Rattle.std.specs.Prelude.{MatchOption, unwrap_or}
 use Rattle.std.proofs.lemmas.List.{take-take}
 use Rattle.std.specs.List.{AllByRecursion}
 use Rattle.mr_bytes.specs.Lists.{Distinct}
 use Rattle.mr_bytes.proofs.ListLaws.{Has-append_left}
 use Rattle.mr_jobs.specs.JobSpec.{RequestSpec}
 use Rattle.mr_shards.specs.declared.ranges.Gap.TheVariants as gap
-use Rattle.mr_shards.specs.Gaps.{IsFirstGap, Stands, goes_on_at, note_at}
+use Rattle.mr_shards.specs.Gaps.{BeginsWell, IsFirstGap, Stands, goes_on_at, note_at}
 use Rattle.mr_shards.specs.Joined.{AreOnce, IsJoined, IsNearRange, IsRepeated, inputs_of}
 use Rattle.mr_shards.specs.RangeNotes.{Follows, RangeNote, TileFiles, goes_on, names_from}
 use Rattle.mr_shards.specs.Verdict.{Told}
@@ -70,17 +72,26 @@ stand_at partial (n ∷ ns) (suc k) t less = ((λ e p. begins_at partial n ns k 
 -- ---- the first fault
 
 module _ (partial : Bool) (ns : List RangeNote) where
-  pub gap_begins : (i : ℕ) → IsFirstGap partial ns (gap.NoBeginning i) → AreOnce ns → IsInputFault partial ns (NoBeginning i)
-  gap_begins i g once = (g, once_front ns i once)
+  -- no file begins twice before the input that does so, or before the end
+  pub once_before : (r : Option ℕ) → MatchOption r (AreOnce ns) (IsRepeated ns) → AreOnce (take (unwrap_or r (length ns)) ns)
+  once_before (Some repeat) h = h.2
+  once_before None h = once_front ns (length ns) h
 
-  pub gap_ends : (i : ℕ) → IsFirstGap partial ns (gap.NoEnd i) → AreOnce ns → IsInputFault partial ns (NoEnd i)
-  gap_ends i g once = (g, once_front ns (i + 1) once)
+  pub begins_first : (i once : ℕ) → IsFirstGap partial ns (gap.NoBeginning i) → AreOnce (take once ns) → i ≤ once → IsInputFault partial ns (NoBeginning i)
+  begins_first i once g h less = (g, once_sooner ns i once less h)
 
-  pub begins_first : (i repeat : ℕ) → IsFirstGap partial ns (gap.NoBeginning i) → IsRepeated ns repeat → i ≤ repeat → IsInputFault partial ns (NoBeginning i)
-  begins_first i repeat g r less = (g, once_sooner ns i repeat less r.2)
+  pub ends_first : (i once : ℕ) → IsFirstGap partial ns (gap.NoEnd i) → AreOnce (take once ns) → i < once → IsInputFault partial ns (NoEnd i)
+  ends_first i once g h less = (g, once_sooner ns (i + 1) once (omega (arith, less)) h)
 
-  pub ends_first : (i repeat : ℕ) → IsFirstGap partial ns (gap.NoEnd i) → IsRepeated ns repeat → i < repeat → IsInputFault partial ns (NoEnd i)
-  ends_first i repeat g r less = (g, once_sooner ns (i + 1) repeat (omega (arith, less)) r.2)
+  pub repeat_begins : (i repeat : ℕ) → IsFirstGap partial ns (gap.NoBeginning i) → IsRepeated ns repeat → repeat < i → IsInputFault partial ns (RepeatedInput repeat)
+  repeat_begins i repeat g r less = (r, λ k l. g.1 k (omega (arith, l, less)), (g.1 repeat less).0)
+
+  pub repeat_ends : (i repeat : ℕ) → IsFirstGap partial ns (gap.NoEnd i) → IsRepeated ns repeat → repeat ≤ i → IsInputFault partial ns (RepeatedInput repeat)
+  repeat_ends i repeat g r less = (r, λ k l. g.1 k (omega (arith, l, less)), by (eq-or-lt_of_le less))
+    where
+      by : (repeat ≡ i) ⊎ (repeat < i) → BeginsWell partial ns (gap.NoEnd repeat)
+      by (inl e) = subst (λ k. BeginsWell partial ns (gap.NoEnd k)) (sym e) g.2
+      by (inr l) = (g.1 repeat l).0
 
   pub repeat_alone : (repeat : ℕ) → TileFiles partial ns → IsRepeated ns repeat → IsInputFault partial ns (RepeatedInput repeat)
   repeat_alone repeat t r = (r, λ k less. stand_at partial ns k t (omega (arith, less, r.0)), (stand_at partial ns repeat t r.0).0)

@@ -70,43 +70,8 @@ fn expect_outputs(verdicts: &[Verdict], parts: u32) -> Result<(), ShardFault>
     Ok(())
 }
 
-/// The first fault of inputs of which one begins a file again. Of one input the fault of its
-/// beginning comes first, then that of its name, then that of its end.
-fn first_fault(inputs: &[FileRange], partial: bool, repeat: usize) -> ShardFault
-    requires { IsRepeated inputs.now repeat }
-    ensures { IsInputFault partial inputs.now result }
-{
-    match first_gap(inputs, partial) {
-        None => ShardFault::RepeatedInput { input: repeat },
-        Some(Gap::NoBeginning { input }) => {
-            if repeat < input {
-                return ShardFault::RepeatedInput { input: repeat };
-            }
-            ShardFault::NoBeginning { input }
-        }
-        Some(Gap::NoEnd { input }) => {
-            if repeat <= input {
-                return ShardFault::RepeatedInput { input: repeat };
-            }
-            ShardFault::NoEnd { input }
-        }
-    }
-}
-
-/// The inputs tile files.
-fn expect_tiles(inputs: &[FileRange], partial: bool) -> Result<(), ShardFault>
-    requires { AreOnce inputs.now }
-    ensures ok { OnOk result (TileFiles partial inputs.now) }
-    ensures err { IfErr result (IsInputFault partial inputs.now) }
-{
-    match first_gap(inputs, partial) {
-        Some(Gap::NoBeginning { input }) => Err(ShardFault::NoBeginning { input }),
-        Some(Gap::NoEnd { input }) => Err(ShardFault::NoEnd { input }),
-        None => Ok(()),
-    }
-}
-
-/// There are fewer than 2^32 inputs. They tile files, and no file begins twice.
+/// There are fewer than 2^32 inputs. They tile files, and no file begins twice. Of one input the
+/// fault of its beginning comes first, then that of its name, then that of its end.
 fn expect_files(alloc: Global, inputs: &[FileRange], partial: bool) -> Result<(), ShardFault>
     ensures few { OnOk result (length inputs.now < 2 ^ 32) }
     ensures tiles { OnOk result (TileFiles partial inputs.now) }
@@ -116,9 +81,24 @@ fn expect_files(alloc: Global, inputs: &[FileRange], partial: bool) -> Result<()
     if u32::try_from(inputs.len()).is_err() {
         return Err(ShardFault::TooManyFiles);
     }
-    match first_repeat(alloc, inputs)? {
-        Some(input) => Err(first_fault(inputs, partial, input)),
-        None => expect_tiles(inputs, partial),
+    let repeat = first_repeat(alloc, inputs)?;
+    let once = repeat.unwrap_or(inputs.len());
+    match first_gap(inputs, partial) {
+        Some(Gap::NoBeginning { input }) => {
+            if input <= once {
+                return Err(ShardFault::NoBeginning { input });
+            }
+        }
+        Some(Gap::NoEnd { input }) => {
+            if input < once {
+                return Err(ShardFault::NoEnd { input });
+            }
+        }
+        None => {}
+    }
+    match repeat {
+        Some(input) => Err(ShardFault::RepeatedInput { input }),
+        None => Ok(()),
     }
 }
 
@@ -150,29 +130,8 @@ pub struct MergePlan<'a> {
     pub partial: bool,
 }
 
-/// Checks the list of inputs if there is one, then the folders, then the names of files.
-fn expect_meant<S: Store>(
-    store: &S,
-    alloc: Global,
-    plan: &MergePlan<'_>,
-    inputs: &[FileRange],
-    parts: u32,
-) -> Result<(), ShardFault>
-    requires { AllByRecursion IsNearRange inputs.now }
-    ensures listed { OnOk result (IsListed (S.holds store.now) (option_map (λ n. n.now) plan.now.list) inputs.now) }
-    ensures apart { OnOk result (AreApart (map (λ s. s.now) plan.now.names.now) plan.now.out.now) }
-    ensures unshared { OnOk result (AreUnshared (S.known_as store.now)
-        (map (λ s. s.now) plan.now.names.now) (option_map (λ n. n.now) plan.now.list)
-        plan.now.out.now parts) }
-    ensures err { IfErr result (IsUnmeant (S.holds store.now) (S.unreadable store.now)
-        (S.alike store.now) (S.known_as store.now) (map (λ s. s.now) plan.now.names.now)
-        (option_map (λ n. n.now) plan.now.list) plan.now.out.now parts inputs.now) }
-{
-    expect_listed(store, alloc, plan.list, inputs)?;
-    expect_apart(store, plan.names, plan.out)?;
-    expect_unshared(store, alloc, plan, parts)
-}
-
+/// Joins the verdicts. Then checks the list of inputs if there is one, the folders, and the names of
+/// files.
 fn prepare<S: Store>(
     store: &S,
     alloc: Global,
@@ -188,8 +147,9 @@ fn prepare<S: Store>(
 {
     let request = first_request(alloc, verdicts)?;
     let joined = join_once(alloc, &request, verdicts, plan.partial)?;
-    let parts = request.parts();
-    expect_meant(store, alloc, plan, joined.inputs.as_slice(), parts)?;
+    expect_listed(store, alloc, plan.list, joined.inputs.as_slice())?;
+    expect_apart(store, plan.names, plan.out)?;
+    expect_unshared(store, alloc, plan, request.parts())?;
     Ok((request, joined))
 }
 
