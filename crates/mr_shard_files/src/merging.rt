@@ -57,19 +57,6 @@ fn first_request(alloc: Global, verdicts: &[Verdict]) -> Result<Request, ShardFa
     }
 }
 
-/// Each verdict lists one output for each partition.
-fn expect_outputs(verdicts: &[Verdict], parts: u32) -> Result<(), ShardFault>
-    ensures ok { OnOk result (AreCounted verdicts.now parts) }
-    ensures err { IfErr result (IsMiscounted verdicts.now parts) }
-{
-    for (shard, verdict) in verdicts.iter().enumerate() {
-        if verdict.outputs.len() != parts as usize {
-            return Err(ShardFault::OtherOutputs { shard });
-        }
-    }
-    Ok(())
-}
-
 /// There are fewer than 2^32 inputs. They tile files, and no file begins twice. Of one input the
 /// fault of its beginning comes first, then that of its name, then that of its end.
 fn expect_files(alloc: Global, inputs: &[FileRange], partial: bool) -> Result<(), ShardFault>
@@ -112,7 +99,11 @@ fn join_once(
     ensures err { IfErr result (IsJoinedFault partial request.now verdicts.now) }
 {
     let joined = join_verdicts(alloc, request, verdicts)?;
-    expect_outputs(verdicts, request.parts())?;
+    for (shard, verdict) in verdicts.iter().enumerate() {
+        if verdict.outputs.len() != request.parts() as usize {
+            return Err(ShardFault::OtherOutputs { shard });
+        }
+    }
     expect_files(alloc, joined.inputs.as_slice(), partial)?;
     Ok(joined)
 }
@@ -211,28 +202,6 @@ pub(crate) fn open_part<S: Store>(
     }
 }
 
-fn open_parts<S: Store>(
-    store: &S,
-    alloc: Global,
-    names: &[&str],
-    verdicts: &[Verdict],
-    partition: usize,
-) -> Result<Vec<Part<S::Reader>>, ShardFault>
-    requires { length names.now ≡ length verdicts.now }
-    ensures ok { IfOk result (λ qs. AreOpened (S.holds store.now)
-        (S.unreadable store.now) S.Reader.remaining S.Reader.can_fail
-        partition (map (λ s. s.now) names.now) verdicts.now qs.items) }
-    ensures err { IfErr result (IsTextsFault (S.holds store.now)
-        (S.unreadable store.now) partition (map (λ s. s.now) names.now) verdicts.now) }
-{
-    let mut parts = Vec::new(alloc);
-    for shard in 0..names.len() {
-        let part = open_part(store, alloc, names[shard], &verdicts[shard], partition)?;
-        parts.push(part).map_err(AllocError::from)?;
-    }
-    Ok(parts)
-}
-
 /// The shards' parts for each partition. It reads none yet; the store decides which are open.
 pub(crate) fn open_all<S: Store>(
     store: &S,
@@ -251,7 +220,11 @@ pub(crate) fn open_all<S: Store>(
 {
     let mut rows = Vec::new(alloc);
     for partition in 0..count {
-        let parts = open_parts(store, alloc, names, verdicts, partition)?;
+        let mut parts = Vec::new(alloc);
+        for shard in 0..names.len() {
+            let part = open_part(store, alloc, names[shard], &verdicts[shard], partition)?;
+            parts.push(part).map_err(AllocError::from)?;
+        }
         rows.push(parts).map_err(AllocError::from)?;
     }
     Ok(rows)

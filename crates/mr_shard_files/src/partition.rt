@@ -29,30 +29,6 @@ use sha2::{Digest, Sha256};
 use std::alloc::{AllocError, Global};
 use std::thread::Threads;
 
-/// The part of the result for a partition, of which nothing is written yet.
-fn begin_part<S: Store>(
-    store: &mut S,
-    alloc: Global,
-    dir: &str,
-    partition: usize,
-) -> Result<Made<S::Writer>, ShardFault>
-    ensures fresh { IfOk result (λ m. HasWritten S.Writer.seen [] m) }
-    ensures name { IfOk result (λ m. string_bytes m.name ≡ name_of_part dir.now partition) }
-    ensures fails { IfOk result (λ m. S.Writer.can_fail m.writer
-        → S.unwritable store.old (name_of_part dir.now partition)) }
-    ensures others { ChangesOnly (S.holds store.old) (S.holds store.new) (name_of_part dir.now partition) }
-    ensures still { (n : List ℕ) → S.unwritable store.new n → S.unwritable store.old n }
-    ensures err { IfErr result (ReportsUnwritten (S.unwritable store.old
-        (name_of_part dir.now partition)) (name_of_part dir.now partition)) }
-{
-    let name = part_name(alloc, dir, partition)?;
-    match store.writer(alloc, name.as_str()) {
-        Ok(writer) => Ok(Made::new(alloc, name, writer)),
-        Err(WriteFault::OutOfMemory) => Err(ShardFault::OutOfMemory),
-        Err(WriteFault::Device) => Err(ShardFault::CannotWrite(name)),
-    }
-}
-
 /// What is merged to one part of the result: of each shard its files and its verdict.
 #[derive(Clone, Copy)]
 pub(crate) struct PartMerge<'a> {
@@ -127,7 +103,12 @@ fn part_written<S: Store, T: Threads>(
         ⊎ ReportsUnwritten (S.unwritable store.old (name_of_part dir.now merge.now.partition))
         (name_of_part dir.now merge.now.partition) e) }
 {
-    let mut made = begin_part(store, alloc, dir, merge.partition)?;
+    let name = part_name(alloc, dir, merge.partition)?;
+    let mut made = match store.writer(alloc, name.as_str()) {
+        Ok(writer) => Made::new(alloc, name, writer),
+        Err(WriteFault::OutOfMemory) => return Err(ShardFault::OutOfMemory),
+        Err(WriteFault::Device) => return Err(ShardFault::CannotWrite(name)),
+    };
     let answer = part_filled(rt, alloc, merge, parts, &mut made);
     let Made { name, writer, .. } = made;
     store.close(name.as_str(), writer)?;

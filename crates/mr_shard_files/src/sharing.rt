@@ -66,17 +66,6 @@ fn names_read(
     Ok(read)
 }
 
-/// The names of all written files: the parts, then the verdict.
-fn names_written(alloc: Global, out: &str, parts: usize) -> Result<Vec<String>, AllocError>
-    ensures { IfOk result (λ written. map string_bytes written.items ≡ merged_names out.now parts) }
-{
-    let mut written = Vec::new(alloc);
-    add_parts(alloc, &mut written, out, parts)?;
-    let last = verdict_name(alloc, out)?;
-    written.push(last).map_err(AllocError::from)?;
-    Ok(written)
-}
-
 /// Refuses a written file that the merge also reads, or writes before.
 pub(crate) fn expect_unshared<S: Store>(
     store: &S,
@@ -91,8 +80,12 @@ pub(crate) fn expect_unshared<S: Store>(
         (map (λ s. s.now) plan.now.names.now) (option_map (λ n. n.now) plan.now.list)
         plan.now.out.now parts) }
 {
-    let read = names_read(alloc, plan.names, plan.list, parts as usize)?;
-    let written = names_written(alloc, plan.out, parts as usize)?;
+    let parts = parts as usize;
+    let read = names_read(alloc, plan.names, plan.list, parts)?;
+    let mut written = Vec::new(alloc);
+    add_parts(alloc, &mut written, plan.out, parts)?;
+    let last = verdict_name(alloc, plan.out)?;
+    written.push(last).map_err(AllocError::from)?;
     match first_shared(store, alloc, read.as_slice(), written.as_slice())? {
         Some(name) => Err(ShardFault::SameFile(name)),
         None => Ok(()),
