@@ -1,7 +1,5 @@
 -- Parts of the result that are written in pieces.
-use Rattle.std.proofs.Common.{◌≡◌, ◌⊎◌, ◌++◌, [], inl, inr, ℕ, List, ◌∙◌, ap, append-nil, subst, sym}
-use Rattle.std.specs.Prelude.{Err, IfErr, IfOk, Ok, OnOk, Result}
-use Rattle.std.proofs.lemmas.Result.{IfErr-weaker}
+use Rattle.std.proofs.Common.{◌≡◌, ◌++◌, [], ℕ, List, ◌∙◌, ap, append-nil, subst, sym}
 use Rattle.mr_shard_files.specs.declared.fault.ShardFault.{ShardFault}
 use Rattle.mr_shard_files.specs.declared.fault.ShardFault.TheVariants.{CannotWrite, OutOfMemory}
 use Rattle.mr_files.specs.Holding.{Agrees}
@@ -18,16 +16,3 @@ pub unwritten_back : (P Q : Type 0) (m n : List ℕ) (e : ShardFault) → (P →
 unwritten_back P Q m n (CannotWrite told) f s h = (f h.0, h.1 ∙ s)
 unwritten_back P Q m n OutOfMemory f s h = tt
 unwritten_back P Q m n e f s h = absurd h
-
--- so with any answer, which something else may have refused
-pub refused_back : {T : Type 0} (other : ShardFault → Type 0) (P Q : Type 0) (m n : List ℕ) (r : Result T ShardFault) → (P → Q) → m ≡ n → IfErr r (λ e. other e ⊎ ReportsUnwritten P m e) → IfErr r (λ e. other e ⊎ ReportsUnwritten Q n e)
-refused_back {T} other P Q m n r f s h = IfErr-weaker r (λ e. other e ⊎ ReportsUnwritten P m e) (λ e. other e ⊎ ReportsUnwritten Q n e) by h
-  where
-    by : (e : ShardFault) → other e ⊎ ReportsUnwritten P m e → other e ⊎ ReportsUnwritten Q n e
-    by e (inl k) = inl k
-    by e (inr k) = inr (unwritten_back P Q m n e f s k)
-
--- what an answer gives holds with what is known where it gives something
-pub given_with : {T E : Type 0} (r : Result T E) (H : Type 0) (P Q : T → Type 0) → (H → (v : T) → P v → Q v) → OnOk r H → IfOk r P → IfOk r Q
-given_with (Ok v) H P Q f known h = f known v h
-given_with (Err e) H P Q f known h = tt

@@ -16,7 +16,7 @@ use Rattle.mr_shard_files.specs.declared.stream.Part.{Part}
 use Rattle.mr_shard_files.specs.Made.{Gives}
 use Rattle.mr_shard_files.specs.declared.rounds.Stop.{Stop}
 use Rattle.mr_shard_files.specs.declared.rounds.Stop.TheVariants as stop
-use Rattle.mr_shard_files.specs.Streams.{AllAre, AllMayBe, AreBlamed, AreHeld, AreUnsettled, AreWindowsOf, IsBlamedOver, IsNotBeside, IsRefused, IsStopped, IsStoppedAt, IsRoundFault, MayBe, Moves, OneIs, MergesHeld, ReportsUnread, all_done, is_done}
+use Rattle.mr_shard_files.specs.Streams.{AllAre, AllMayBe, AreBlamed, AreHeld, AreWindowsOf, IsBlamedOver, IsNotBeside, IsRefused, IsStopped, IsStoppedAt, IsRoundFault, MayBe, Moves, OneIs, MergesHeld, ReportsUnread, all_done, is_done}
 use Rattle.mr_shard_files.specs.declared.fault.ShardFault.{ShardFault}
 use Rattle.mr_shard_files.proofs.StreamLemmas.{moves_none, moves_on, unread_back}
 
@@ -269,10 +269,6 @@ module _ {R : Type 0} (remaining : R → Option (List ℕ)) (can_fail : R → Ty
   refused_rounds unwritten os ns e (inl none) = inl (inl none)
   refused_rounds unwritten os ns e (inr (inl one)) = inl (inr (inl one))
   refused_rounds unwritten os ns e (inr (inr told)) = inr told
-
-  -- nor are those of which one is another
-  pub refused_one : (xs : List (List ℕ)) (os ns : List (Part R)) (e : ShardFault) → AllAre (Moves remaining can_fail) xs os ns → AreUnsettled remaining can_fail p vs ns e → IsRefused remaining can_fail job fs p vs os e
-  refused_one xs os ns e moved why = inr (inr (inl (record { mid = ns; passed = xs; moved = moved; why = why })))
 
 -- windows on the parts that are not merged beside a write
 pub stopped_beside : {R : Type 0} (job : JobSpec) (qs : List (Part R)) (ws : List Window) (m : Standing) (unwritten : ShardFault → Type 0) (e : Stop)

@@ -6,14 +6,10 @@ use Rattle.mr_files.specs.declared.ranges.RangeFault.{RangeFault}
 use Rattle.mr_files.specs.declared.ranges.RangeFault.TheVariants as range
 use Rattle.mr_shards.specs.declared.merger.MergeFault.{MergeFault}
 use Rattle.mr_shards.specs.declared.merger.MergeFault.TheVariants as merge
-use Rattle.mr_shards.specs.declared.ranges.Gap.{Gap}
-use Rattle.mr_shards.specs.declared.ranges.Gap.TheVariants as gap
-use Rattle.mr_shards.specs.declared.verdict.VerdictFault.{VerdictFault}
-use Rattle.mr_shards.specs.declared.verdict.VerdictFault.TheVariants as text
 use Rattle.mr_shards.specs.declared.joining.JoinFault.{JoinFault}
 use Rattle.mr_shards.specs.declared.joining.JoinFault.TheVariants as join
 use Rattle.mr_shard_files.specs.declared.fault.ShardFault.{ShardFault}
-use Rattle.mr_shard_files.specs.declared.fault.ShardFault.TheVariants.{BadLine, BadVerdict, CannotRead, CannotWrite, FarPlace, NoBeginning, NoEnd, NoSuchFile, OldVerdict, OtherInput, OtherRequest, OutOfMemory, PlaceTooFar, TooManyFiles, TooManyPairs, TotalTooLarge}
+use Rattle.mr_shard_files.specs.declared.fault.ShardFault.TheVariants.{BadLine, CannotRead, CannotWrite, FarPlace, NoSuchFile, OtherInput, OtherRequest, OutOfMemory, PlaceTooFar, TooManyFiles, TooManyPairs, TotalTooLarge}
 
 abbrev pub told_of_file : FileFault → ShardFault
 told_of_file (file.CannotRead name) = CannotRead name
@@ -25,17 +21,6 @@ told_of_join (join.OtherRequest shard) = OtherRequest shard
 told_of_join join.TooManyPairs = TooManyPairs
 told_of_join (join.PlaceTooFar shard) = FarPlace shard
 told_of_join join.OutOfMemory = OutOfMemory
-
--- of inputs that don't tile files
-abbrev pub told_of_gap : Gap → ShardFault
-told_of_gap (gap.NoBeginning input) = NoBeginning input
-told_of_gap (gap.NoEnd input) = NoEnd input
-
--- of the verdict of a shard
-abbrev pub told_of_verdict : ℕ → VerdictFault → ShardFault
-told_of_verdict shard (text.BadLine line) = BadVerdict shard line
-told_of_verdict shard text.OldVerdict = OldVerdict shard
-told_of_verdict shard text.OutOfMemory = OutOfMemory
 
 -- of a range of an input
 abbrev pub told_of_range : ℕ → RangeFault → ShardFault

@@ -1,6 +1,6 @@
 //! Why shards are not merged.
 ghost use Rattle.std.specs.Prelude.{◌≡◌};
-ghost use Rattle.mr_shard_files.specs.Told.{told_of_merge, told_of_range, told_of_verdict};
+ghost use Rattle.mr_shard_files.specs.Told.{told_of_merge, told_of_range};
 
 use mr_files::{FileFault, RangeFault};
 use mr_shards::{JoinFault, MergeFault};

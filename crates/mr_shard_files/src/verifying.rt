@@ -121,43 +121,27 @@ fn test_parts<S: Store>(
     Ok(total)
 }
 
-/// The range's bytes are those of its note.
-fn test_range<S: Store>(
-    store: &S,
-    alloc: Global,
-    range: &FileRange,
-    input: usize,
-) -> Result<(), ShardFault>
-    ensures ok { OnOk result (StandsInFile (S.holds store.now) range.now) }
-    ensures err { IfErr result
-        (IsRangeFault (S.holds store.now) (S.unreadable store.now) input range.now) }
-{
-    let Ok(name) = str::from_utf8(range.name.as_slice()) else {
-        return Err(ShardFault::OtherInput { input });
-    };
-    let Some(end) = range.from.checked_add(range.length) else {
-        return Err(ShardFault::OtherInput { input });
-    };
-    match read_range_within(store, alloc, name, range.from, Some(end), MAX_BYTES) {
-        Ok((bytes, _)) => {
-            let digest = Sha256::digest(bytes.as_slice());
-            if digest.as_slice() == range.digest.as_slice() {
-                Ok(())
-            } else {
-                Err(ShardFault::OtherInput { input })
-            }
-        }
-        Err(fault) => Err(of_range(input, fault)),
-    }
-}
-
+/// The bytes of each range are those of its note.
 fn test_ranges<S: Store>(store: &S, alloc: Global, ranges: &[FileRange]) -> Result<(), ShardFault>
     ensures ok { OnOk result (AllByRecursion (StandsInFile (S.holds store.now)) ranges.now) }
     ensures err { IfErr result
         (IsFirstRange (S.holds store.now) (S.unreadable store.now) ranges.now) }
 {
     for input in 0..ranges.len() {
-        test_range(store, alloc, &ranges[input], input)?;
+        let range = &ranges[input];
+        let Ok(name) = str::from_utf8(range.name.as_slice()) else {
+            return Err(ShardFault::OtherInput { input });
+        };
+        let Some(end) = range.from.checked_add(range.length) else {
+            return Err(ShardFault::OtherInput { input });
+        };
+        let bytes = match read_range_within(store, alloc, name, range.from, Some(end), MAX_BYTES) {
+            Ok((bytes, _)) => bytes,
+            Err(fault) => return Err(of_range(input, fault)),
+        };
+        if Sha256::digest(bytes.as_slice()).as_slice() != range.digest.as_slice() {
+            return Err(ShardFault::OtherInput { input });
+        }
     }
     Ok(())
 }

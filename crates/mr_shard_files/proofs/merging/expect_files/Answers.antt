@@ -1,4 +1,4 @@
-use Rattle.std.proofs.Common.{◌≡◌, ◌<◌, ◌≤◌, ◌^◌, Option, arith, length, rules, subst, sym, take}
+use Rattle.std.proofs.Common.{◌≡◌, ◌<◌, ◌^◌, Option, arith, length, rules, subst, sym, take}
 use Rattle.std.specs.Prelude.{MatchOption}
 use Rattle.mr_shards.specs.declared.ranges.Gap.{Gap}
 use Rattle.mr_shards.specs.Gaps.{IsFirstGap}

@@ -9,8 +9,12 @@ use Rattle.mr_shard_files.proofs.merging.open_all.Goals as goal
 pub returns-in_err-part-clause-err : goal.returns-in_err-part-clause-err
 returns-in_err-part-clause-err g c =
     let p = err_from_is_err_and c.from_residual.result c.from_residual.ensures.1 in
-    rw p.1 (rw p.2 (inr (c.loop-partition.partition, c.loop-partition-test.true, inr (unopened_at g.S.Reader.CountedRead.remaining g.S.Reader.CountedRead.can_fail (g.S.Store.holds c.args.store.now) (g.S.Store.unreadable c.args.store.now) c.loop-partition.partition (λ s. s.now) c.args.names.now c.args.verdicts.now c.loop-shard.shard _
-    c.loop-shard.parts.items c.in_err-part.field-0.0 c.loop-shard-test.true c.loop-shard.invariant c.in_err-part.ensures.err))))
+    rw p.1 (rw p.2 (inr (
+      c.loop-partition.partition,
+      c.loop-partition-test.true,
+      inr (unopened_at g.S.Reader.CountedRead.remaining g.S.Reader.CountedRead.can_fail (g.S.Store.holds c.args.store.now) (g.S.Store.unreadable c.args.store.now) c.loop-partition.partition (λ s. s.now) c.args.names.now c.args.verdicts.now c.loop-shard.shard _
+          c.loop-shard.parts.items c.in_err-part.field-0.0 c.loop-shard-test.true c.loop-shard.invariant c.in_err-part.ensures.err),
+    )))
 
 pub loop-shard-preserved : goal.loop-shard-preserved
 loop-shard-preserved g c =
