@@ -1,5 +1,5 @@
 -- What `explain` is asked, and what it prints.
-use Rattle.std.proofs.Common.{◌≡◌, ℕ, ◌≤◌, ◌<◌, ◌^◌, Bool, true, false, cond, nat_lt, Option, None, Some, List, [], ◌∷◌, ◌++◌, length, map, refl, sym, ap, ◌∙◌, subst, arith, option_map, Vec, Global}
+use Rattle.std.proofs.Common.{◌≡◌, ℕ, ◌≤◌, ◌<◌, ◌^◌, Bool, true, false, cond, nat_lt, Option, None, Some, List, [], ◌∷◌, ◌++◌, length, map, refl, sym, ap, ◌∙◌, subst, arith, option_map}
 use Rattle.std.proofs.lemmas.List.{length-map}
 use Rattle.mr_bytes.specs.declared.RecordName.{RecordName}
 use Rattle.mr_jobs.specs.JobSpec.{RequestSpec}
@@ -15,10 +15,9 @@ use Rattle.mr_explain.specs.declared.query.SourceFile.{SourceFile}
 use Rattle.mr_explain.specs.declared.query.Query.{Query}
 use Rattle.mr_splits.specs.Named.{named_records}
 use Rattle.mr_explain.specs.Explained.{explanation}
-use Rattle.mr_explain.specs.declared.query.Explained.{Explained}
-use Rattle.mr_commands.specs.Facts.{AreExplainFacts, KnowsEvidence}
+use Rattle.mr_commands.specs.Facts.{AreExplainFacts, IsCounted, sizes}
 use Rattle.mr_commands.specs.declared.counts.Facts.{Facts}
-use Rattle.mr_commands.specs.declared.counts.Facts.TheVariants.{Evidence}
+use Rattle.mr_commands.specs.declared.counts.Facts.TheVariants.{Evidence, Job, Nothing, Verdict}
 use Rattle.mr_args.specs.SkipList.{SpellsNames}
 use Rattle.mr_args.specs.declared.request.ExplainOptions.{ExplainOptions}
 use Rattle.mr_args.specs.Asked.{request_asked}
@@ -93,6 +92,9 @@ explained holds o run q part before after status h asked request compared = reco
 }
 
 -- what is known besides
-pub known_so : (holds : Stored) (o : ExplainOptions) (facts : Facts) (inputs : Vec ℕ Global) (e : Explained) → facts ≡ Evidence inputs e
-    → KnowsEvidence holds o inputs.items e → AreExplainFacts holds o facts
-known_so holds o facts inputs e is h = subst (AreExplainFacts holds o) (sym is) h
+pub known_so : (holds : Stored) (o : ExplainOptions) (q : Query) (lengths : List ℕ) (facts : Facts) → IsQueryOf holds o q → lengths ≡ sizes q.plan.now.files
+    → IsCounted q lengths facts → AreExplainFacts holds o facts
+known_so holds o q lengths (Job j) asked these h = absurd h
+known_so holds o q lengths (Verdict v) asked these h = absurd h
+known_so holds o q lengths Nothing asked these h = absurd h
+known_so holds o q lengths (Evidence inputs e) asked these h = record { query = q; asked = asked; lengths = h.0 ∙ these; kept = h.1; left_out = h.2 }

@@ -7,12 +7,13 @@ use Rattle.mr_input.specs.Files.{contents, total_size}
 use Rattle.mr_input.specs.declared.InputFault.{InputFault}
 use Rattle.mr_input.specs.declared.InputFault.TheVariants.{TooManyFiles, TooLarge}
 use Rattle.mr_files.specs.Holding.{Faulty, Stored}
+use Rattle.mr_files.specs.Identities.{Known}
 use Rattle.mr_files.specs.Stretches.{AreTaken, AreTakenFrom, IsUntaken, Stretch}
 use Rattle.mr_files.specs.declared.store.FileFault.TheVariants as file
 use Rattle.mr_files.specs.declared.ranges.RangeFault.{RangeFault}
 use Rattle.mr_files.specs.declared.ranges.RangeFault.TheVariants as range
 use Rattle.mr_args.specs.declared.fault.Fault.TheVariants.{Input}
-use Rattle.mr_commands.specs.Inputs.{IsUnreadInput, told_of_unread}
+use Rattle.mr_commands.specs.Inputs.{IsInputRefusal, IsUnreadInput, told_of_unread}
 
 taken_lengths : (holds : Stored) (ns : List (List ℕ)) (from : ℕ) (to : Option ℕ) (bs : List (List ℕ)) (ends : Bool) → AreTakenFrom holds ns from to bs ends → length ns ≡ length bs
 taken_lengths holds [] from to [] ends h = refl
@@ -37,13 +38,13 @@ input_fault holds unreadable s files ends TooManyFiles taken small many large =
 input_fault holds unreadable s files ends TooLarge taken small many large = absurd (omega (arith, small, (large refl).1))
 
 -- a file that is not taken
-pub unread_file : (holds : Stored) (unreadable : Faulty) (s : Stretch) (at : ℕ) (fault : RangeFault) → IsUntaken holds unreadable s (2 ^ 30) at fault → IsUnreadInput holds unreadable s (told_of_unread at fault)
-unread_file holds unreadable s at (range.File (file.CannotRead name)) h = (at, h)
-unread_file holds unreadable s at (range.File (file.CannotWrite name)) h = absurd h.refused
-unread_file holds unreadable s at (range.File file.OutOfMemory) h = tt
-unread_file holds unreadable s at range.PastEnd h = h
-unread_file holds unreadable s at (range.InsideALine byte) h = h
-unread_file holds unreadable s at range.TooLong h = (at, h)
+pub unread_file : (holds : Stored) (unreadable : Faulty) (known : Known) (s : Stretch) (read written : List (List ℕ)) (size at : ℕ) (fault : RangeFault) → IsUntaken holds unreadable s (2 ^ 30) at fault → IsInputRefusal holds unreadable known s read written size (told_of_unread at fault)
+unread_file holds unreadable known s read written size at (range.File (file.CannotRead name)) h = (at, h)
+unread_file holds unreadable known s read written size at (range.File (file.CannotWrite name)) h = absurd h.refused
+unread_file holds unreadable known s read written size at (range.File file.OutOfMemory) h = tt
+unread_file holds unreadable known s read written size at range.PastEnd h = h
+unread_file holds unreadable known s read written size at (range.InsideALine byte) h = h
+unread_file holds unreadable known s read written size at range.TooLong h = (at, h)
 
 split : (n m : ℕ) → (n ≤ m) ⊎ (m < n)
 split n m = grind arith

@@ -20,6 +20,10 @@ use Rattle.mr_args.specs.Statuses.{ReportsFile}
 pub asked : {A : Type 0} (o : Options) (r : A) → ((◌≡◌ {A = Result A Fault} (Ok r) (Err OtherJobsOption)) ↔ AsksForOtherJob o) → WithinLimits (request_asked o) → RangeStands o → IsAsked o
 asked o r other within range = record { own = λ a. cc (other.1 a); within = within; range = range }
 
+-- a fact about names that are read besides and names that are written
+pub by_names : (P : List (List ℕ) → List (List ℕ) → Type 0) (b besides w written : List (List ℕ)) → b ≡ besides → w ≡ written → P b w → P besides written
+by_names P b besides w written e f h = subst (λ (x : List (List ℕ)). P besides x) f (subst (λ (x : List (List ℕ)). P x w) e h)
+
 pub option_stage : (holds : Stored) (unreadable : Faulty) (known : Known) (asked : CheckOptions) (e : Fault)
     → IsAsked asked.options → IsOptionRefusal asked e → IsCheckRefusal holds unreadable known asked e
 option_stage holds unreadable known asked e a h = inr (inl (a, h))

@@ -25,9 +25,8 @@ use Rattle.mr_files.proofs.Passed.{sizes_more}
 use Rattle.std.specs.List.{filter_map}
 use Rattle.mr_bytes.specs.declared.RecordName.{RecordName}
 use Rattle.mr_splits.specs.Cut.{Cut, record_named, records_of}
-use Rattle.mr_explain.specs.Explained.{explanation, kept_of, left_out_of}
+use Rattle.mr_explain.specs.Explained.{explanation, kept_of}
 use Rattle.mr_explain.specs.Walking.{AreCounts}
-use Rattle.mr_explain.specs.declared.query.Explained.{Explained}
 use Rattle.mr_explain.specs.declared.query.Totals.{Totals}
 use Rattle.mr_explain.specs.Sifting.{Heading, IsSifting, IsUnwanted, KeptLines, SiftedFile, as_file, heading_of, kept_files, kept_lines, whole_file}
 use Rattle.mr_explain.specs.declared.query.Query.{Query}
@@ -41,10 +40,12 @@ use Rattle.mr_args.specs.declared.request.ExplainOptions.{ExplainOptions}
 use Rattle.mr_args.specs.declared.request.Options.{Options}
 use Rattle.mr_args.specs.Asked.{request_asked}
 use Rattle.mr_commands.specs.Explains.{AnswersExplain, Compares, IsComparedPart, IsQueryOf, IsSought, source_told, sources_from}
-use Rattle.mr_commands.specs.Facts.{KnowsEvidence}
+use Rattle.mr_commands.specs.Facts.{AreExplainFacts, IsCounted}
 use Rattle.mr_commands.specs.Inputs.{AreRead, IsUnreadInput}
 use Rattle.mr_commands.specs.Named.{input_names, stretch_of}
 use Rattle.mr_commands.specs.Sifted.{AsksAlone, HasSifted, IsSiftedFile, IsSiftedRun, StandsSifted, TakesAll, keeps, names_of, whole_stretch, wholes}
+use Rattle.mr_commands.specs.declared.counts.Facts.{Facts}
+use Rattle.mr_commands.specs.declared.counts.Facts.TheVariants as told
 use Rattle.mr_commands.specs.declared.sifted.SiftedFiles.{SiftedFiles}
 use Rattle.mr_commands.specs.declared.sifted.SiftedRun.{SiftedRun}
 
@@ -62,7 +63,7 @@ splits_more size (g ∷ files) f = omega (arith, splits_more size files f)
 -- ---- one file
 
 -- a whole file is the range from its first byte to its end
-whole_range : (file : List ℕ) → IsRangeOf file 0 None file true
+pub whole_range : (file : List ℕ) → IsRangeOf file 0 None file true
 whole_range file = record {
   order = omega arith;
   within = omega arith;
@@ -308,12 +309,14 @@ module _ (holds : Stored) (o : ExplainOptions) (run : SiftedRun) (kept : Query) 
       record { pairs = empty.pairs; records = empty.records }
 
   -- what is counted over what was kept is what is counted over the whole files
-  pub known_sifted : (inputs : List ℕ) (e : Explained) → inputs ≡ map length (wholes h.files) → AreCounts kept.job.now kept.wanted (kept_of kept) e.kept
-      → AreCounts kept.job.now kept.wanted (left_out_of kept) e.left_out → KnowsEvidence holds o inputs e
-  known_sifted inputs e lengths of_kept of_left_out = record {
+  pub known_sifted : (lengths : List ℕ) (facts : Facts) → lengths ≡ map length (wholes h.files) → IsCounted kept lengths facts → AreExplainFacts holds o facts
+  known_sifted lengths (told.Job j) these counted = absurd counted
+  known_sifted lengths (told.Verdict v) these counted = absurd counted
+  known_sifted lengths told.Nothing these counted = absurd counted
+  known_sifted lengths (told.Evidence inputs e) these counted = record {
     query = whole;
     asked = whole_asked;
-    lengths = lengths;
-    kept = exact.1 e.kept of_kept;
-    left_out = none_left kept.job.now kept.skips.now skips kept.plan.now e.left_out of_left_out;
+    lengths = counted.0 ∙ these;
+    kept = exact.1 e.kept counted.1;
+    left_out = none_left kept.job.now kept.skips.now skips kept.plan.now e.left_out counted.2;
   }

@@ -141,6 +141,12 @@ pub record KnowsEvidence (holds : Stored) (o : ExplainOptions) (inputs : List �
   pub kept : AreCounts query.job.now query.wanted (kept_of query) e.kept
   pub left_out : AreCounts query.job.now query.wanted (left_out_of query) e.left_out
 
+-- what was counted of a query over files of which so many bytes are taken
+abbrev pub IsCounted : Query → List ℕ → Facts → Type 0
+IsCounted q lengths (Evidence inputs e) =
+    (inputs.items ≡ lengths) × AreCounts q.job.now q.wanted (kept_of q) e.kept × AreCounts q.job.now q.wanted (left_out_of q) e.left_out
+IsCounted q lengths facts = ⊥
+
 abbrev pub AreExplainFacts : Stored → ExplainOptions → Facts → Type 0
 AreExplainFacts holds o (Evidence inputs e) = KnowsEvidence holds o inputs.items e
 AreExplainFacts holds o facts = ⊥

@@ -1,6 +1,5 @@
 -- The judgement of a result, from what was read of it to what is said and kept. No public clause stands on it.
 use Rattle.std.specs.Prelude.{◌≡◌, ◌⊎◌, ℕ, Bool, List, Option, None, IfSome, Result, Ok, Err, option_map, string_bytes}
-use Rattle.mr_input.specs.Files.{contents}
 use Rattle.mr_jobs.specs.JobSpec.{RequestSpec}
 use Rattle.mr_verdict.specs.declared.answers.No.{No}
 use Rattle.mr_verdict.specs.declared.answers.No.TheVariants.{OutOfMemory}
@@ -21,7 +20,6 @@ use Rattle.mr_commands.specs.Named.{AreClear, read_by_check, stretch_of, verdict
 use Rattle.mr_commands.specs.Verdicts.{verdict_about}
 use Rattle.mr_commands.specs.declared.check_job.CheckJob.{CheckJob}
 use Rattle.mr_commands.specs.declared.check_job.Judgement.{Judgement}
-use Rattle.mr_commands.specs.declared.check_job.ResultBytes.{ResultBytes}
 use Rattle.mr_commands.specs.declared.texts.CommandOutput.{CommandOutput}
 
 -- what an answer says of a result
@@ -58,10 +56,6 @@ files_judged job = result_names job.asked.now.options.out.now job.asked.now.opti
 -- one of them can't be read
 abbrev pub IsUnreadResult : Faulty → CheckJob → Fault → Type 0
 IsUnreadResult unreadable job fault = IsResultRefusal unreadable (files_judged job) fault
-
--- what was read of the result stands there
-abbrev pub IsHeld : Stored → CheckJob → ResultBytes → Type 0
-IsHeld holds job held = IsResult holds job.asked.now.options (contents held.outputs.items) held.certificate.items
 
 -- the answer on the result
 abbrev pub AnswersResult : Stored → CheckJob → Result Yes No → Type 0

@@ -1,5 +1,5 @@
 -- What `merge` answers, over the files of a store.
-use Rattle.std.specs.Prelude.{◌≡◌, ℕ, ◌++◌, List, Option, codes, decimal, length, map, option_map}
+use Rattle.std.specs.Prelude.{◌≡◌, ℕ, List, Option, codes, length, map, option_map}
 use Rattle.mr_files.specs.Holding.{Faulty, Stored}
 use Rattle.mr_files.specs.Identities.{Known}
 use Rattle.mr_shards.specs.Verdict.{Told}
@@ -9,11 +9,11 @@ use Rattle.mr_shard_files.specs.declared.fault.ShardFault.{ShardFault}
 use Rattle.mr_args.specs.declared.request.MergeOptions.{MergeOptions}
 use Rattle.mr_args.specs.declared.fault.Fault.{Fault}
 use Rattle.mr_args.specs.Statuses.{ReportsShards}
+use Rattle.mr_commands.specs.Outcomes.{counts_line}
 
 -- what is said of a result by a word: its files, its pairs, and the records that are left out, as its verdict tells them
 abbrev pub result_line : List ℕ → Told → List ℕ
-result_line word v = word ++ (decimal (length v.outputs) ++ (codes " files, " ++ (decimal v.pairs ++ (codes " pairs, "
-    ++ (decimal (length v.left_out) ++ codes " left out\n")))))
+result_line word v = counts_line word (length v.outputs) v.pairs (length v.left_out)
 
 -- the names of the verdicts, in order
 abbrev pub verdict_names : MergeOptions → List (List ℕ)

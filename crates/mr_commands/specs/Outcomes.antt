@@ -9,10 +9,14 @@ use Rattle.mr_sequential.specs.Certified.{certificate_of}
 use Rattle.mr_sequential.specs.Sequential.{sequential}
 use Rattle.mr_sequential.specs.Skips.{skip_fault}
 
+-- what is said of a result by a word: its files, its pairs, and the records that are left out
+abbrev pub counts_line : List ℕ → ℕ → ℕ → ℕ → List ℕ
+counts_line word files pairs left_out =
+    word ++ (decimal files ++ (codes " files, " ++ (decimal pairs ++ (codes " pairs, " ++ (decimal left_out ++ codes " left out\n")))))
+
 -- what is said of a sequential execution
 abbrev pub done_line : ℕ → ℕ → ℕ → List ℕ
-done_line files pairs left_out =
-    codes "done: " ++ (decimal files ++ (codes " files, " ++ (decimal pairs ++ (codes " pairs, " ++ (decimal left_out ++ codes " left out\n")))))
+done_line = counts_line (codes "done: ")
 
 -- the outputs of the sequential execution without these records, which it may leave out, and bytes of its certificate in this
 -- version

@@ -1,5 +1,5 @@
 -- What `run` answers, over the files of a store.
-use Rattle.std.specs.Prelude.{Bool, true, ◌≡◌, ◌⊎◌, ℕ, ◌∷◌, ◌++◌, ◌<◌, ◌≤◌, Option, None, Some, IfSome, List, [], Contains, codes, decimal, ⊤, string_bytes, option_map, length, vec_len}
+use Rattle.std.specs.Prelude.{Bool, true, ◌≡◌, ◌⊎◌, ℕ, ◌∷◌, ◌++◌, ◌<◌, ◌≤◌, Option, None, Some, IfSome, List, [], Contains, codes, ⊤, string_bytes, option_map, length, vec_len}
 use Rattle.mr_input.specs.Files.{contents}
 use Rattle.mr_jobs.specs.JobSpec.{RequestSpec}
 use Rattle.mr_certform.specs.declared.version.Version.{Version}
@@ -30,14 +30,14 @@ use Rattle.mr_args.specs.Statuses.{ReportsFile}
 use Rattle.mr_commands.specs.Answers.{HasPairs}
 use Rattle.mr_picture.specs.HistoryLines.{fault_name}
 use Rattle.mr_commands.specs.HistoryLines.{history_text}
+use Rattle.mr_commands.specs.Outcomes.{counts_line}
 use Rattle.mr_commands.specs.OldVerdicts.{IsEmptied, IsOldVerdict, IsVerdictShared, no_text}
 use Rattle.mr_commands.specs.NoLines.{fault_text}
 
 -- ---- what is said
 
 abbrev pub certified_line : ℕ → ℕ → ℕ → List ℕ
-certified_line files pairs left_out =
-    codes "certified: " ++ (decimal files ++ (codes " files, " ++ (decimal pairs ++ (codes " pairs, " ++ (decimal left_out ++ codes " left out\n")))))
+certified_line = counts_line (codes "certified: ")
 
 abbrev pub failed_line : JobFault → List ℕ
 failed_line f = codes "failed: " ++ (fault_name f ++ codes "\n")
@@ -191,12 +191,6 @@ IsScriptRefusal holds unreadable (Some name) (Script f) = (bytes : List ℕ) × 
 IsScriptRefusal holds unreadable None (Script f) = IsScriptFault [] f
 IsScriptRefusal holds unreadable name OutOfMemory = ⊤
 IsScriptRefusal holds unreadable name fault = ⊥
-
--- bytes spell no script
-abbrev pub IsBadScript : List ℕ → Fault → Type 0
-IsBadScript bytes (Script f) = IsScriptFault bytes f
-IsBadScript bytes OutOfMemory = ⊤
-IsBadScript bytes fault = ⊥
 
 -- the file of a name stands in a directory, as far as it can be told
 abbrev pub StandsIn : (List ℕ → List ℕ → Type 0) → List ℕ → List ℕ → Type 0

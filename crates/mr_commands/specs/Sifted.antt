@@ -1,5 +1,5 @@
 -- Of no public promise: what is read of the files of `explain`, and what is kept of them.
-use Rattle.std.specs.Prelude.{◌≡◌, ℕ, ◌+◌, ◌<◌, ◌≤◌, ◌^◌, None, List, [], length, map}
+use Rattle.std.specs.Prelude.{◌≡◌, ℕ, ◌+◌, ◌≤◌, ◌^◌, None, List, [], length, map}
 use Rattle.std.specs.List.{AllByRecursion, flat_map}
 use Rattle.mr_input.specs.Files.{contents, split_total, total_size}
 use Rattle.mr_files.specs.Holding.{Stored}
@@ -40,10 +40,6 @@ pub record IsSiftedFile (holds : Stored) (name : List ℕ) (so : List ℕ → Ty
   pub within : length file ≤ limit
   pub sifting : IsSifting so file (map kept_lines s.excerpts.items)
   pub few : length s.excerpts.items ≤ most
-
--- more bytes stand under the name
-abbrev pub IsLonger : Stored → List ℕ → ℕ → Type 0
-IsLonger holds name limit = (file : List ℕ) × holds name file × (limit < length file)
 
 -- ---- files one behind another
 

@@ -7,7 +7,7 @@
 //! fast judge doesn't accept the result. Then the caller opens all files again. A pipe, a socket or a
 //! device gives its bytes only once: a result with one isn't for the fast judge (`can_reread`).
 //! Cost: each file is read once; the parts' bytes are held.
-ghost use Rattle.std.specs.Prelude.{◌≡◌, ◌≤◌, IfSome, Ok, length};
+ghost use Rattle.std.specs.Prelude.{◌≤◌, IfSome, Ok, length};
 ghost use Rattle.mr_input.specs.Files.{contents};
 ghost use Rattle.mr_files.specs.Holding.{Holding};
 ghost use Rattle.mr_files.specs.Names.{name_of_part, part_names};
@@ -31,10 +31,9 @@ pub(crate) fn can_reread<S: Store>(job: &CheckJob<'_>, store: &S, alloc: Global)
         return false;
     };
     for name in names.as_slice() {
-        match store.identity(alloc, name.as_str()) {
-            Ok(Some(_)) => {}
-            _ => return false,
-        }
+        let Ok(Some(_)) = store.identity(alloc, name.as_str()) else {
+            return false;
+        };
     }
     true
 }
@@ -97,10 +96,8 @@ pub(crate) fn accept_files<S: Store>(
     };
     // What is left to read are bytes.
     let _known = certificate.failures();
-    let computation = Computation {
-        request: job.request,
-        input: job.input,
-    };
+    let (request, input) = (job.request, job.input);
+    let computation = Computation { request, input };
     let outputs = outputs.as_slice();
     accept_read(alloc, &computation, outputs, &mut certificate, watch)
 }

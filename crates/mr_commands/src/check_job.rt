@@ -33,12 +33,6 @@ pub(crate) struct Judgement {
     pub verdict: Option<Vec<u8>>,
 }
 
-#[derive(Drop)]
-pub(crate) struct ResultBytes {
-    pub outputs: Vec<Vec<u8>>,
-    pub certificate: Vec<u8>,
-}
-
 /// A judgement with tested options and an input that fits the request.
 #[derive(Clone, Copy)]
 pub(crate) struct CheckJob<'a> {
@@ -72,46 +66,21 @@ impl<'a> CheckJob<'a> {
     ghost use Rattle.mr_bytes.specs.Lists.{Rises};
     ghost use Rattle.mr_bytes.specs.Order.{record_order};
     ghost use Rattle.mr_shards.specs.Spots.{SkipsExist};
-    ghost use Rattle.mr_files.specs.Refusals.{IsOneLonger};
-    ghost use Rattle.mr_commands.specs.Judgements.{AnswersResult, IsAnswer, IsHeld, IsJudgement};
-    ghost use Rattle.mr_commands.specs.Judgements.{IsUnreadResult};
-    ghost use Rattle.mr_commands.specs.Judgements.{JudgesResult, files_judged, text_kept};
-
-    /// Reads the result, if no file has more than `most` bytes.
-    fn read<S: Store>(
-        &self,
-        store: &S,
-        alloc: Global,
-        most: u64,
-    ) -> Result<Option<ResultBytes>, Fault>
-        ensures held { IfOk result (λ r. IfSome r (IsHeld (S.holds store.now) self.now)) }
-        ensures longer { IfOk result (λ r. r ≡ None → IsOneLonger (S.holds store.now) (files_judged self.now) most) }
-        ensures refused { IfErr result (IsUnreadResult (S.unreadable store.now) self.now) }
-    {
-        let options = &self.asked.options;
-        match read_result_within(store, alloc, options.out, options.parts as usize, most) {
-            Ok((outputs, certificate)) => Ok(Some(ResultBytes {
-                outputs,
-                certificate,
-            })),
-            Err(LimitFault::TooLong) => Ok(None),
-            Err(LimitFault::File(fault)) => Err(Fault::from(fault)),
-        }
-    }
+    ghost use Rattle.mr_commands.specs.Judgements.{AnswersResult, IsAnswer, IsUnreadResult};
+    ghost use Rattle.mr_commands.specs.Judgements.{JudgesResult, text_kept};
 
     fn verdict<R: Threads + Sync>(
         &self,
         rt: &R,
         alloc: Global,
-        held: &ResultBytes,
+        outputs: &[Vec<u8>],
+        certificate: &[u8],
         watch: &dyn Progress,
     ) -> Result<Yes, No>
-        ensures { IsAnswer self.now.request.now self.now.input.now (contents held.now.outputs.items)
-            held.now.certificate.items result }
+        ensures { IsAnswer self.now.request.now self.now.input.now (contents outputs.now)
+            certificate.now result }
     {
         let (request, input) = (self.request, self.input);
-        let outputs = held.outputs.as_slice();
-        let certificate = held.certificate.as_slice();
         let case = Case {
             request,
             input,
@@ -135,10 +104,7 @@ impl<'a> CheckJob<'a> {
             ≡ text_kept self.now.request.now self.now.asked.now self.now.input.now self.now.ends
             (contents outputs.now) answer.now) }
     {
-        let Ok(yes) = answer else {
-            return Ok(None);
-        };
-        let Some(_) = self.asked.verdict else {
+        let (Ok(yes), Some(_)) = (answer, self.asked.verdict) else {
             return Ok(None);
         };
         let options = &self.asked.options;
@@ -156,24 +122,6 @@ impl<'a> CheckJob<'a> {
         Ok(Some(write_verdict(alloc, &verdict)?))
     }
 
-    fn judge<R: Threads + Sync>(
-        &self,
-        rt: &R,
-        alloc: Global,
-        held: &ResultBytes,
-        watch: &dyn Progress,
-    ) -> Result<Judgement, Fault>
-        ensures judged { IfOk result (IsJudgement self.now.request.now self.now.asked.now
-            self.now.input.now self.now.ends (contents held.now.outputs.items)
-            held.now.certificate.items) }
-        ensures memory { IfErr result (λ e. e ≡ Fault.OutOfMemory) }
-    {
-        let answer = self.verdict(rt, alloc, held, watch);
-        let said = say(alloc, self.input, &answer)?;
-        let verdict = self.verdict_text(alloc, held.outputs.as_slice(), &answer)?;
-        Ok(Judgement { said, verdict })
-    }
-
     /// Whether no verdict of this answer is kept.
     fn keeps_nothing(&self, answer: &Result<Yes, No>) -> bool
         ensures { IsTrue result → (outputs : List (List ℕ)) → text_kept self.now.request.now
@@ -185,21 +133,29 @@ impl<'a> CheckJob<'a> {
         }
     }
 
-    /// Judges the result, read whole, if no file is longer than a good result's.
+    /// Reads the result and judges it, if no file has more than `most` bytes.
     fn judge_whole<S: Store, R: Threads + Sync>(
         &self,
         rt: &R,
         store: &S,
         alloc: Global,
+        most: u64,
         watch: &dyn Progress,
     ) -> Result<Option<Judgement>, Fault>
         ensures judged { IfOk result (λ j. IfSome j (JudgesResult (S.holds store.now) self.now)) }
         ensures refused { IfErr result (IsUnreadResult (S.unreadable store.now) self.now) }
     {
-        match self.read(store, alloc, most_bytes(self.input))? {
-            Some(held) => Ok(Some(self.judge(rt, alloc, &held, watch)?)),
-            None => Ok(None),
-        }
+        let options = &self.asked.options;
+        let (dir, parts) = (options.out, options.parts as usize);
+        let (outputs, certificate) = match read_result_within(store, alloc, dir, parts, most) {
+            Ok(held) => held,
+            Err(LimitFault::TooLong) => return Ok(None),
+            Err(LimitFault::File(fault)) => return Err(Fault::from(fault)),
+        };
+        let answer = self.verdict(rt, alloc, outputs.as_slice(), certificate.as_slice(), watch);
+        let said = say(alloc, self.input, &answer)?;
+        let verdict = self.verdict_text(alloc, outputs.as_slice(), &answer)?;
+        Ok(Some(Judgement { said, verdict }))
     }
 
     /// The answer on the result: the fast judge's yes, or what is found while the result is read.
@@ -242,7 +198,7 @@ impl<'a> CheckJob<'a> {
             None
         };
         if whole || (again && accepted.is_none()) {
-            match self.judge_whole(rt, store, alloc, watch) {
+            match self.judge_whole(rt, store, alloc, most_bytes(self.input), watch) {
                 Ok(Some(judgement)) => return Ok(judgement),
                 Err(fault) if whole => return Err(fault),
                 _ => {}
@@ -256,8 +212,8 @@ impl<'a> CheckJob<'a> {
                 verdict: None,
             });
         }
-        match self.read(store, alloc, u64::MAX)? {
-            Some(held) => self.judge(rt, alloc, &held, watch),
+        match self.judge_whole(rt, store, alloc, u64::MAX, watch)? {
+            Some(judgement) => Ok(judgement),
             // More than a machine holds.
             None => Err(Fault::OutOfMemory),
         }

@@ -26,7 +26,7 @@ use crate::merging::merge;
 use crate::old_verdicts::{old_verdict, write_over};
 use crate::picturing::picture;
 use crate::running::{Machine, run as run_by_workers};
-use crate::texts::{CommandOutput, done_line};
+use crate::texts::{CommandOutput, counts_line};
 use crate::verifying::verify;
 use mr_args::{Fault, Options, SeqOptions, Subcommand};
 use mr_bytes::Progress;
@@ -87,7 +87,7 @@ fn run_request(alloc: Global, run: RunInput, watch: &dyn Progress) -> Result<Wor
     };
     // Free what is done before asking for more memory.
     drop(run);
-    let line = done_line(alloc, made.outputs.len(), pairs, left_out)?;
+    let line = counts_line(alloc, "done: ", made.outputs.len(), pairs, left_out)?;
     Ok(Work {
         outputs: made.outputs,
         certificate: made.certificate,

@@ -4,9 +4,11 @@
 //! Cost: one pass over the bytes before the place, of which 64 KiB are held.
 ghost use Rattle.std.specs.Prelude.{◌≡◌, IfErr, IfOk};
 ghost use Rattle.mr_store.specs.Devices.{FailsOnly};
-ghost use Rattle.mr_commands.specs.Explains.{GaveFeeds, HasFeeds, ReportsUnread};
+ghost use Rattle.mr_args.specs.Asked.{RangeStands};
+ghost use Rattle.mr_commands.specs.Explains.{AreLinesBefore, GaveFeeds, HasFeeds, ReportsUnread};
+ghost use Rattle.mr_commands.specs.Explains.{first_name};
 
-use mr_args::Fault;
+use mr_args::{Fault, Options};
 use mr_explain::line_feeds;
 use mr_files::Store;
 use mr_store::{CountedRead, Device, ReadFault};
@@ -48,17 +50,21 @@ fn read_feeds<S: Store>(store: &S, alloc: Global, name: &str, place: u64) -> Res
     }
 }
 
-/// The line feeds of the file before byte `place`.
-pub(crate) fn count_feeds_before<S: Store>(
+/// The line feeds of the first file before what is taken of it.
+pub(crate) fn lines_before<S: Store>(
     store: &S,
     alloc: Global,
-    name: &str,
-    place: u64,
+    options: &Options<'_>,
 ) -> Result<u64, Fault>
-    ensures feeds { IfOk result (HasFeeds (S.holds store.now) name.now place) }
-    ensures refused { IfErr result (ReportsUnread (S.unreadable store.now) name.now) }
+    requires { RangeStands options.now }
+    ensures lines { IfOk result (AreLinesBefore (S.holds store.now) options.now) }
+    ensures refused { IfErr result (ReportsUnread (S.unreadable store.now) (first_name options.now)) }
 {
-    match read_feeds(store, alloc, name, place) {
+    if options.from == 0 {
+        return Ok(0);
+    }
+    let name = options.files[0];
+    match read_feeds(store, alloc, name, options.from) {
         Ok(feeds) => Ok(feeds),
         Err(ReadFault::OutOfMemory) => Err(Fault::OutOfMemory),
         Err(ReadFault::Device) => Err(Fault::CannotRead(String::from_str(alloc, name)?)),

@@ -7,8 +7,7 @@ ghost use Rattle.mr_files.specs.Identities.{AreApart};
 ghost use Rattle.mr_commands.specs.Inputs.{AreRead, IsInputRefusal, IsRunInput};
 ghost use Rattle.mr_commands.specs.Inputs.{IsRunInputRefusal, IsTakenInput};
 ghost use Rattle.mr_commands.specs.Inputs.{IsUnreadInput, told_of_unread};
-ghost use Rattle.mr_commands.specs.Named.{input_names, named, names_in};
-ghost use Rattle.mr_commands.specs.Named.{stretch_of as stretch_in};
+ghost use Rattle.mr_commands.specs.Named.{input_names, named, names_in, stretch_of as stretch_in};
 
 use mr_args::{Fault, Options, request_of, skips_of};
 use mr_bytes::RecordName;

@@ -4,15 +4,11 @@ ghost use Rattle.std.specs.Prelude.{◌≡◌, ℕ, [], ◌<◌, IfErr, IfOk, If
 ghost use Rattle.std.specs.Prelude.{OnOk, Contains, map, option_map, slice_index_or, length};
 ghost use Rattle.std.specs.Prelude.{string_bytes, List, MatchResult, get_or};
 ghost use Rattle.mr_files.specs.Holding.{ChangesAmong};
-ghost use Rattle.mr_files.specs.Identities.{AreApart};
 ghost use Rattle.mr_commands.specs.Checks.{AreGoodThreads, IsCheckRefusal, IsFirstLineEnd};
-ghost use Rattle.mr_commands.specs.Checks.{IsNameRefusal, IsOptionRefusal};
-ghost use Rattle.mr_args.specs.Asked.{RangeStands};
-ghost use Rattle.mr_commands.specs.Inputs.{IsInputRefusal, IsTakenInput};
+ghost use Rattle.mr_commands.specs.Checks.{IsOptionRefusal};
 ghost use Rattle.mr_commands.specs.Facts.{AreCheckFacts};
 ghost use Rattle.mr_commands.specs.Judgements.{Judges, AnswersResult, files_judged};
-ghost use Rattle.mr_commands.specs.Named.{AreClear, read_by_check, stretch_of, verdict_file};
-ghost use Rattle.mr_commands.specs.Named.{written_by_check};
+ghost use Rattle.mr_commands.specs.Named.{AreClear, verdict_file, written_by_check};
 ghost use Rattle.mr_commands.specs.Verdicts.{IsCheckUnanswered, IsKeptUnder, IsTextRefused};
 ghost use Rattle.mr_commands.specs.Verdicts.{KeepsVerdict, names_kept};
 ghost use Rattle.mr_files.specs.Refusals.{IsUnreadAmong, ReportsCause};
@@ -52,20 +48,7 @@ fn first_line_end(names: &[&str]) -> Option<usize>
     None
 }
 
-/// Refuses names of the input that a verdict, if there is one, can't list.
-fn expect_names(asked: &CheckOptions<'_>) -> Result<(), Fault>
-    ensures clear { OnOk result (IfSome (verdict_file asked.now) (λ _. AreClear asked.now.options)) }
-    ensures refused { IfErr result (λ e. IsNameRefusal asked.now e) }
-{
-    let Some(_) = asked.verdict else {
-        return Ok(());
-    };
-    match first_line_end(asked.options.files.as_slice()) {
-        Some(file) => Err(Fault::LineEndInName { file }),
-        None => Ok(()),
-    }
-}
-
+/// Tests the number of threads, and that a verdict, if there is one, can list the input's names.
 fn expect_options(asked: &CheckOptions<'_>) -> Result<(), Fault>
     ensures threads { OnOk result (AreGoodThreads asked.now.threads) }
     ensures clear { OnOk result (IfSome (verdict_file asked.now) (λ _. AreClear asked.now.options)) }
@@ -74,39 +57,17 @@ fn expect_options(asked: &CheckOptions<'_>) -> Result<(), Fault>
     if asked.threads == 0 || asked.threads > MAX_THREADS {
         return Err(Fault::BadThreads);
     }
-    expect_names(asked)
+    if asked.verdict.is_none() {
+        return Ok(());
+    }
+    match first_line_end(asked.options.files.as_slice()) {
+        Some(file) => Err(Fault::LineEndInName { file }),
+        None => Ok(()),
+    }
 }
 
-/// The input, with its files and the result's distinct from the verdict, and whether its last file
-/// ends with it.
-fn input_apart<S: Store>(
-    store: &S,
-    alloc: Global,
-    request: &Request,
-    asked: &CheckOptions<'_>,
-) -> Result<(Input, bool), Fault>
-    requires { RangeStands asked.now.options }
-    ensures input { IfOk result (λ r. IsTakenInput (S.holds store.now)
-        (stretch_of asked.now.options) request.now.split r.0 r.1) }
-    ensures apart { OnOk result (AreApart (S.known_as store.now) (read_by_check asked.now) (written_by_check asked.now)) }
-    ensures refused { IfErr result (λ e. IsInputRefusal (S.holds store.now)
-        (S.unreadable store.now) (S.known_as store.now) (stretch_of asked.now.options)
-        (read_by_check asked.now) (written_by_check asked.now) request.now.split e) }
-{
-    let options = &asked.options;
-    let besides = names_of_result(alloc, options.out, options.parts as usize)?;
-    let written = name_given(alloc, asked.verdict)?;
-    input_of(
-        store,
-        alloc,
-        request,
-        options,
-        FileNames { besides, written },
-    )
-}
-
-/// Tests the request, the number of threads and the names for a verdict, then reads the input, then
-/// judges the result. It writes nothing.
+/// Tests the request, the number of threads and the names for a verdict, then reads the input, with
+/// its files and the result's distinct from the verdict, then judges the result. It writes nothing.
 fn judge_asked<S: Store, R: Threads + Sync>(
     rt: &R,
     store: &S,
@@ -119,7 +80,11 @@ fn judge_asked<S: Store, R: Threads + Sync>(
 {
     let request = request_of(alloc, &asked.options)?;
     expect_options(asked)?;
-    let (input, ends) = input_apart(store, alloc, &request, asked)?;
+    let options = &asked.options;
+    let besides = names_of_result(alloc, options.out, options.parts as usize)?;
+    let written = name_given(alloc, asked.verdict)?;
+    let files = FileNames { besides, written };
+    let (input, ends) = input_of(store, alloc, &request, options, files)?;
     let job = CheckJob {
         asked,
         request: &request,
@@ -208,10 +173,8 @@ fn judge_files<R: CountedRead + Drop, C: ReadCause>(
         (map (λ r. R.remaining r.reader) parts.old) (R.remaining certificate.old.reader)) }
     ensures refused { IfErr result (ReportsCause C.cause) }
 {
-    let computation = Computation {
-        request: job.request,
-        input: job.input,
-    };
+    let (request, input) = (job.request, job.input);
+    let computation = Computation { request, input };
     match judge_readers(alloc, &computation, parts, certificate, watch) {
         Ok(yes) => Ok(Ok(yes)),
         Err(no) => Ok(Err(trace_fault(alloc, parts, certificate, no)?)),

@@ -2,12 +2,11 @@
 //!
 //! What can be refused is refused before the page is written. The line is made before too, so that
 //! nothing fails behind it.
-ghost use Rattle.std.specs.Prelude.{◌≡◌, ◌⊎◌, ◌++◌, ◌∷◌, [], List, ℕ, IfErr, IfOk, OnOk, string_bytes};
+ghost use Rattle.std.specs.Prelude.{◌≡◌, ◌⊎◌, ◌∷◌, [], List, ℕ, IfErr, IfOk, OnOk, string_bytes};
 ghost use Rattle.mr_files.specs.Holding.{ChangesAmong};
 ghost use Rattle.mr_picture.specs.Histories.{IsReadable};
 ghost use Rattle.mr_commands.specs.Pictures.{AnswersPicture, HasPage, IsApart};
 ghost use Rattle.mr_commands.specs.Pictures.{IsPageRefused, IsPictureRefusal, IsPictureUnanswered};
-ghost use Rattle.mr_commands.specs.Pictures.{IsShared};
 ghost use Rattle.mr_commands.specs.Pictures.{IsUndrawn, drawn_line};
 
 use crate::counts::Facts;
@@ -65,26 +64,13 @@ pub fn draw<S: Store>(
     Ok(page.events)
 }
 
-/// The page must be another file than the history.
-fn expect_apart<S: Store>(store: &S, alloc: Global, asked: &PictureOptions<'_>) -> Result<(), Fault>
-    ensures apart { OnOk result (IsApart (S.known_as store.now) asked.now) }
-    ensures refused { IfErr result (IsShared (S.known_as store.now) asked.now) }
-{
-    let read = name_given(alloc, Some(asked.history))?;
-    let written = name_given(alloc, Some(asked.page))?;
-    match first_shared(store, alloc, read.as_slice(), written.as_slice())? {
-        Some(shared) => Err(Fault::SameFile(shared)),
-        None => Ok(()),
-    }
-}
-
 fn line_of(alloc: Global, events: u64) -> Result<String, AllocError>
     ensures { IfOk result (λ text. string_bytes text ≡ drawn_line events) }
 {
     format!(in alloc; "drawn: {events} events\n")
 }
 
-/// Reads a history, tests it, and draws it.
+/// Reads a history, tests that the page is another file, and draws it.
 fn draw_asked<S: Store>(store: &S, alloc: Global, asked: &PictureOptions<'_>) -> Result<Page, Fault>
     ensures drawn { IfOk result (λ p. (history : List ℕ) × S.holds store.now asked.now.history.now history
         × IsApart (S.known_as store.now) asked.now × IsReadable history p.events) }
@@ -92,7 +78,11 @@ fn draw_asked<S: Store>(store: &S, alloc: Global, asked: &PictureOptions<'_>) ->
         ⊎ IsPictureRefusal (S.holds store.now) (S.unreadable store.now) (S.known_as store.now) asked.now e) }
 {
     let history = read_file(store, alloc, asked.history)?;
-    expect_apart(store, alloc, asked)?;
+    let read = name_given(alloc, Some(asked.history))?;
+    let written = name_given(alloc, Some(asked.page))?;
+    if let Some(shared) = first_shared(store, alloc, read.as_slice(), written.as_slice())? {
+        return Err(Fault::SameFile(shared));
+    }
     page_of(alloc, asked.history, history.as_slice())
 }
 

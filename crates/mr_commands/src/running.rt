@@ -1,25 +1,21 @@
 //! `run`: tests what is asked for, runs the job, and writes its history and its result.
-ghost use Rattle.std.specs.Prelude.{◌≡◌, ℕ, ◌++◌, Some, List, IfOk, IfErr, IfSome, IsTrue, OnOk};
+ghost use Rattle.std.specs.Prelude.{◌≡◌, ℕ, ◌++◌, Some, List, IfOk, IfErr, IfSome, OnOk};
 ghost use Rattle.std.specs.Prelude.{map, option_map, string_bytes};
 ghost use Rattle.mr_files.specs.Holding.{Begins, ChangesAmong};
-ghost use Rattle.mr_files.specs.Identities.{AreApart};
 ghost use Rattle.mr_files.specs.Refusals.{IsOneUnwritten};
 ghost use Rattle.mr_pool.specs.Outcomes.{IsRunnable};
 ghost use Rattle.mr_commands.specs.Runs.{AnswersRun, AreGoodAttempts, AreGoodWorkers, EndsOver};
-ghost use Rattle.mr_commands.specs.Runs.{IsBadScript, IsCrewRefusal, IsEnding, IsHistoryKept};
+ghost use Rattle.mr_commands.specs.Runs.{IsCrewRefusal, IsEnding, IsHistoryKept};
 ghost use Rattle.mr_commands.specs.Runs.{IsResultKept, IsResultRefused, IsScratchClash};
-ghost use Rattle.mr_commands.specs.Runs.{IsScratchRefusal, StandsIn, scratch_name};
+ghost use Rattle.mr_commands.specs.Runs.{IsScratchRefusal, scratch_name};
 ghost use Rattle.mr_commands.specs.Runs.{IsStartRefusal, IsRunUnanswered, IsScript};
 ghost use Rattle.mr_commands.specs.Runs.{IsScriptRefusal, Runs, ReportsRan, history_of as history_in};
-ghost use Rattle.mr_commands.specs.Inputs.{IsInput, IsInputRefusal};
-ghost use Rattle.mr_commands.specs.Named.{named, stretch_of};
-ghost use Rattle.mr_args.specs.Asked.{RangeStands};
+ghost use Rattle.mr_commands.specs.Named.{named};
 ghost use Rattle.mr_commands.specs.HistoryLines.{history_text};
 ghost use Rattle.mr_commands.specs.Runs.{HasPairsMade, IsPairlessRun, names_left, read_by_run};
 ghost use Rattle.mr_commands.specs.Runs.{written_by_run};
 ghost use Rattle.mr_commands.specs.OldVerdicts.{ChangesOver};
 ghost use Rattle.mr_files.specs.Names.{name_of_verdict};
-ghost use Rattle.mr_script.specs.Scripts.{SpellsScript};
 ghost use Rattle.mr_commands.specs.Facts.{AreLengths, AreRanFacts, AreRunFacts, KnowsHistory};
 ghost use Rattle.mr_commands.specs.Facts.{KnowsRan, sizes};
 
@@ -27,7 +23,7 @@ use crate::commands::expect_pairs;
 use crate::counts::{Facts, JobFacts, sizes_of};
 use crate::input::{FileNames, input_of, name_given};
 use crate::old_verdicts::{old_verdict, write_over};
-use crate::texts::{CommandOutput, certified_line, failed_line, fault_text, history_text};
+use crate::texts::{CommandOutput, counts_line, fault_text, history_text};
 use mr_args::{Fault, RunOptions, request_of};
 use mr_book::History;
 use mr_bytes::{OpenGate, Progress};
@@ -36,6 +32,7 @@ use mr_core::JobFault;
 use mr_files::{FileFault, Store, add_names, folder_of, names_of_result, read_file, write_file};
 use mr_input::Input;
 use mr_jobs::Request;
+use mr_picture::fault_name;
 use mr_pool::{Certified, Environment, RunFault, RunSpec, run_watched, shape_of};
 use mr_script::Script;
 use mr_sequential::lengths_of;
@@ -44,7 +41,7 @@ use mr_store::Bytes;
 use std::alloc::{AllocError, Global};
 use std::sync::Wait;
 use std::thread;
-use std::thread::{JoinHandle, Threads};
+use std::thread::Threads;
 
 const MAX_WORKERS: u32 = 64;
 
@@ -85,26 +82,17 @@ fn expect_crew(asked: &RunOptions<'_>) -> Result<(), Fault>
     Ok(())
 }
 
-fn script_in(alloc: Global, bytes: &[u8]) -> Result<Script, Fault>
-    ensures script { IfOk result (λ s. SpellsScript bytes.now s) }
-    ensures refused { IfErr result (λ e. IsBadScript bytes.now e) }
-{
-    Ok(Script::read(alloc, bytes)?)
-}
-
 /// The script of that name; without a name nothing goes wrong.
 fn script_of<S: Store>(store: &S, alloc: Global, name: Option<&str>) -> Result<Script, Fault>
     ensures script { IfOk result (λ s. IsScript (S.holds store.now) (option_map (λ n. n.now) name.entry) s) }
     ensures refused { IfErr result (λ e. IsScriptRefusal (S.holds store.now)
         (S.unreadable store.now) (option_map (λ n. n.now) name.entry) e) }
 {
-    match name {
-        Some(name) => {
-            let bytes = read_file(store, alloc, name)?;
-            script_in(alloc, bytes.as_slice())
-        }
-        None => script_in(alloc, &[]),
-    }
+    let bytes = match name {
+        Some(name) => read_file(store, alloc, name)?,
+        None => Vec::new(alloc),
+    };
+    Ok(Script::read(alloc, bytes.as_slice())?)
 }
 
 fn run_over<S: RegionStore + Drop, R: Threads + Wait + Sync>(
@@ -140,56 +128,10 @@ fn names_written(alloc: Global, asked: &RunOptions<'_>) -> Result<Vec<String>, A
     Ok(names)
 }
 
-/// The input, with its files and the script distinct from the history and the result.
-fn input_apart<S: Store>(
-    store: &S,
-    alloc: Global,
-    request: &Request,
-    asked: &RunOptions<'_>,
-) -> Result<Input, Fault>
-    requires { RangeStands asked.now.options }
-    ensures input { IfOk result (λ input. IsInput (S.holds store.now) (stretch_of asked.now.options) request.now.split input) }
-    ensures apart { OnOk result (AreApart (S.known_as store.now) (read_by_run asked.now) (written_by_run asked.now)) }
-    ensures refused { IfErr result (λ e. IsInputRefusal (S.holds store.now)
-        (S.unreadable store.now) (S.known_as store.now) (stretch_of asked.now.options)
-        (read_by_run asked.now) (written_by_run asked.now) request.now.split e) }
-{
-    let besides = name_given(alloc, asked.script)?;
-    let written = names_written(alloc, asked)?;
-    let files = FileNames { besides, written };
-    let (input, _) = input_of(store, alloc, request, &asked.options, files)?;
-    Ok(input)
-}
-
 /// Whether the last part of a name may be one of a region or of their lock.
 fn is_region_name(name: &str) -> bool {
-    let last = match name.rsplit_once('/') {
-        Some((_, last)) => last,
-        None => name,
-    };
+    let last = name.rsplit_once('/').map_or(name, |(_, last)| last);
     last.starts_with("region-") || last == "regions.lock"
-}
-
-fn is_region_file<S: Store>(store: &S, dir: &str, name: &str) -> bool
-    ensures { IsTrue result → StandsIn (S.alike store.now) dir.now name.now }
-{
-    is_region_name(name) && store.is_same_folder(dir, folder_of(name))
-}
-
-fn expect_no_region<S: Store>(
-    store: &S,
-    alloc: Global,
-    dir: &str,
-    names: &[String],
-) -> Result<(), Fault>
-    ensures { IfErr result (λ e. IsScratchClash (S.alike store.now) (map string_bytes names.now) (Some dir.now) e) }
-{
-    for name in names {
-        if is_region_file(store, dir, name.as_str()) {
-            return Err(Fault::SameFile(String::from_str(alloc, name.as_str())?));
-        }
-    }
-    Ok(())
 }
 
 /// The names of all files that a run reads, then of those that it may write besides regions.
@@ -216,7 +158,13 @@ fn expect_scratch_apart<S: Store>(
         return Ok(());
     };
     let names = names_of_run(alloc, asked)?;
-    expect_no_region(store, alloc, dir, names.as_slice())
+    for name in names.as_slice() {
+        let name = name.as_str();
+        if is_region_name(name) && store.is_same_folder(dir, folder_of(name)) {
+            return Err(Fault::SameFile(String::from_str(alloc, name)?));
+        }
+    }
+    Ok(())
 }
 
 /// Runs a job, with regions in the directory's files, or in memory without one.
@@ -234,12 +182,13 @@ fn run_job<C: Scratch, R: Threads + Wait + Sync>(
 {
     let (rt, alloc, workers) = (machine.rt, machine.alloc, spec.shape.workers);
     match dir {
-        None => {
-            let Ok(store) = MemoryStore::new(rt, alloc, workers) else {
-                return Err(Fault::OutOfMemory);
-            };
-            run_over(rt, alloc, spec, store, watch)
-        }
+        None => run_over(
+            rt,
+            alloc,
+            spec,
+            MemoryStore::new(rt, alloc, workers)?,
+            watch,
+        ),
         Some(dir) => match machine.scratch.open(alloc, dir, workers) {
             Ok(store) => run_over(rt, alloc, spec, store, watch),
             Err(ScratchFault::InUse) => Err(Fault::ScratchInUse),
@@ -266,7 +215,10 @@ fn test_and_run<S: Store, C: Scratch, R: Threads + Wait + Sync>(
     let request = request_of(alloc, &asked.options)?;
     expect_crew(asked)?;
     let script = script_of(store, alloc, asked.script)?;
-    let input = input_apart(store, alloc, &request, asked)?;
+    let besides = name_given(alloc, asked.script)?;
+    let written = names_written(alloc, asked)?;
+    let files = FileNames { besides, written };
+    let (input, _) = input_of(store, alloc, &request, &asked.options, files)?;
     expect_scratch_apart(store, alloc, asked)?;
     let inputs = lengths_of(alloc, &input)?;
     let spec = RunSpec {
@@ -286,10 +238,16 @@ fn line_of(alloc: Global, ran: &RunOutcome) -> Result<(String, u8), AllocError>
 {
     match ran {
         RunOutcome::Certified(done) => {
-            let text = certified_line(alloc, done.outputs.len(), done.pairs, done.skips.len())?;
-            Ok((text, 0))
+            let (files, left_out) = (done.outputs.len(), done.skips.len());
+            Ok((
+                counts_line(alloc, "certified: ", files, done.pairs, left_out)?,
+                0,
+            ))
         }
-        RunOutcome::Failed(fault, _) => Ok((failed_line(alloc, *fault)?, 1)),
+        RunOutcome::Failed(fault, _) => {
+            let name = fault_name(*fault);
+            Ok((format!(in alloc; "failed: {name}\n")?, 1))
+        }
         RunOutcome::Uncertified(no, _) => {
             let fault = fault_text(alloc, no)?;
             Ok((format!(in alloc; "uncertified: {fault}\n")?, 1))
@@ -312,21 +270,6 @@ fn job_of(alloc: Global, inputs: Vec<u64>, ran: &RunOutcome) -> Result<JobFacts,
     }
 }
 
-/// The text of a run's history, if a page is to be made of it.
-fn history_for(
-    alloc: Global,
-    page: Option<&str>,
-    ran: &RunOutcome,
-) -> Result<Option<String>, AllocError>
-    ensures { IfOk result (λ t. option_map string_bytes t
-        ≡ option_map (λ p. history_text (history_in ran.now)) page.entry) }
-{
-    match page {
-        None => Ok(None),
-        Some(_) => Ok(Some(history_text(alloc, history_of(ran))?)),
-    }
-}
-
 fn output_of(
     alloc: Global,
     page: Option<&str>,
@@ -339,7 +282,10 @@ fn output_of(
     ensures history { IfOk result (λ said. KnowsHistory page.entry ran.now said.facts) }
 {
     let (text, status) = line_of(alloc, ran)?;
-    let history = history_for(alloc, page, ran)?;
+    let history = match page {
+        Some(_) => Some(history_text(alloc, history_of(ran))?),
+        None => None,
+    };
     let job = job_of(alloc, inputs, ran)?;
     let facts = Facts::Job(JobFacts { history, ..job });
     Ok(CommandOutput {
@@ -380,11 +326,6 @@ fn keep_history<S: Store>(
     Ok(())
 }
 
-/// Frees a history, in a thread of its own if one can be made.
-fn let_go<R: Threads>(rt: &R, history: History) -> Option<JoinHandle<()>> {
-    thread::spawn(rt, move || drop(history)).ok()
-}
-
 /// Where a result is certified, it has pairs if they are needed.
 fn expect_pairs_made(needed: bool, ran: &RunOutcome) -> Result<(), Fault>
     ensures some { OnOk result (HasPairsMade needed ran.now) }
@@ -397,7 +338,7 @@ fn expect_pairs_made(needed: bool, ran: &RunOutcome) -> Result<(), Fault>
 }
 
 /// Writes a certified result, over a verdict that stands there. Meanwhile the history, with all
-/// reduce outputs, is freed.
+/// reduce outputs, is freed, in a thread of its own if one can be made.
 fn keep_result<S: Store, R: Threads>(
     rt: &R,
     store: &mut S,
@@ -423,10 +364,10 @@ fn keep_result<S: Store, R: Threads>(
         history,
         ..
     } = done;
-    let freeing = let_go(rt, history);
+    let freeing = thread::spawn(rt, move || drop(history));
     let certificate = Bytes(certificate.as_slice());
     write_over(store, alloc, verdict, out, outputs.as_slice(), &certificate)?;
-    if let Some(handle) = freeing {
+    if let Ok(handle) = freeing {
         handle.join(rt);
     }
     Ok(())

@@ -11,8 +11,8 @@ ghost use Rattle.mr_input.specs.Files.{contents};
 ghost use Rattle.mr_files.specs.Ranges.{IsRangeRefusal};
 ghost use Rattle.mr_files.specs.Refusals.{IsFault};
 ghost use Rattle.mr_explain.specs.Sifting.{IsUnwanted, as_file, heading_of, kept_lines};
-ghost use Rattle.mr_commands.specs.Inputs.{IsInputRefusal, IsRunInputRefusal, IsUnreadInput};
-ghost use Rattle.mr_commands.specs.Sifted.{HasSifted, IsLonger, IsSiftedFile, IsSiftedRun};
+ghost use Rattle.mr_commands.specs.Inputs.{IsInputRefusal, IsRunInputRefusal};
+ghost use Rattle.mr_commands.specs.Sifted.{HasSifted, IsSiftedFile, IsSiftedRun};
 ghost use Rattle.mr_commands.specs.Sifted.{TakesAll, whole_stretch};
 
 use crate::input::fault_of;
@@ -48,45 +48,7 @@ pub(crate) struct SiftedRun<'n> {
     pub lengths: Vec<u64>,
 }
 
-/// Sifts the file of that name.
-fn sift_name<S: Store>(
-    store: &S,
-    alloc: Global,
-    name: &str,
-    job: &Job,
-    wanted: Wanted<'_>,
-    limit: u64,
-    most: usize,
-) -> Result<Sifted, LimitedFault>
-    requires { 0 < most }
-    ensures sifted { IfOk result (IsSiftedFile (S.holds store.now) name.now
-        (IsUnwanted job.now wanted.entry) limit most) }
-    ensures long { result ≡ Err LimitedFault.TooLong → IsLonger (S.holds store.now) name.now limit }
-    ensures device { result ≡ Err LimitedFault.Device → S.unreadable store.now name.now }
-{
-    let mut reader = match store.reader(alloc, name) {
-        Ok(reader) => reader,
-        Err(ReadFault::Device) => return Err(LimitedFault::Device),
-        Err(ReadFault::OutOfMemory) => return Err(LimitedFault::OutOfMemory),
-    };
-    match sift(alloc, &mut reader, job, wanted, limit, most) {
-        Ok(sifted) => Ok(sifted),
-        Err(LimitedFault::TooLong) => Err(LimitedFault::TooLong),
-        Err(LimitedFault::Device) if !reader.is_out_of_memory() => Err(LimitedFault::Device),
-        Err(_) => Err(LimitedFault::OutOfMemory),
-    }
-}
-
-fn cannot_read(alloc: Global, name: &str) -> FileFault
-    ensures { IsFault name.now ReadFault.Device result }
-{
-    match String::from_str(alloc, name) {
-        Ok(name) => FileFault::CannotRead(name),
-        Err(_) => FileFault::OutOfMemory,
-    }
-}
-
-/// Sifts the file of that name, and names it if it can't be read.
+/// Sifts the file of that name. A fault names it if it can't be read.
 fn sift_file<S: Store>(
     store: &S,
     alloc: Global,
@@ -102,11 +64,27 @@ fn sift_file<S: Store>(
     ensures refused { IfErr result (IsRangeRefusal (S.holds store.now)
         (S.unreadable store.now) name.now 0 None limit) }
 {
-    match sift_name(store, alloc, name, job, wanted, limit, most) {
+    let mut reader = match store.reader(alloc, name) {
+        Ok(reader) => reader,
+        Err(ReadFault::Device) => return Err(RangeFault::File(cannot_read(alloc, name))),
+        Err(ReadFault::OutOfMemory) => return Err(RangeFault::File(FileFault::OutOfMemory)),
+    };
+    match sift(alloc, &mut reader, job, wanted, limit, most) {
         Ok(sifted) => Ok(sifted),
         Err(LimitedFault::TooLong) => Err(RangeFault::TooLong),
-        Err(LimitedFault::OutOfMemory) => Err(RangeFault::File(FileFault::OutOfMemory)),
-        Err(LimitedFault::Device) => Err(RangeFault::File(cannot_read(alloc, name))),
+        Err(LimitedFault::Device) if !reader.is_out_of_memory() => {
+            Err(RangeFault::File(cannot_read(alloc, name)))
+        }
+        Err(_) => Err(RangeFault::File(FileFault::OutOfMemory)),
+    }
+}
+
+fn cannot_read(alloc: Global, name: &str) -> FileFault
+    ensures { IsFault name.now ReadFault.Device result }
+{
+    match String::from_str(alloc, name) {
+        Ok(name) => FileFault::CannotRead(name),
+        Err(_) => FileFault::OutOfMemory,
     }
 }
 
@@ -162,39 +140,9 @@ impl<'n> SiftedFiles<'n> {
     }
 }
 
-/// Reads each file in turn, within what those before it leave of the limit of bytes.
+/// Reads each file in turn, within what those before it leave of the limit of bytes. Then it tests
+/// the number of files, and that of their splits.
 fn sift_files<'n, S: Store>(
-    store: &S,
-    alloc: Global,
-    request: &Request,
-    names: &[&'n str],
-    wanted: Wanted<'_>,
-    most: usize,
-) -> Result<SiftedFiles<'n>, Fault>
-    requires { 0 < most }
-    ensures sifted { IfOk result (HasSifted (S.holds store.now)
-        (IsUnwanted request.now.job wanted.entry) request.now.split most (map (λ s. s.now) names.now)) }
-    ensures refused { IfErr result (IsUnreadInput (S.holds store.now)
-        (S.unreadable store.now) (whole_stretch (map (λ s. s.now) names.now))) }
-{
-    let mut files = SiftedFiles {
-        sources: Vec::new(alloc),
-        excerpts: Vec::new(alloc),
-        lengths: Vec::new(alloc),
-        left: MAX_BYTES as u64,
-        splits: 0,
-    };
-    for (file, name) in names.iter().enumerate() {
-        match sift_file(store, alloc, name, request.job(), wanted, files.left, most) {
-            Ok(sifted) => files.add(name, sifted, request.split_size())?,
-            Err(fault) => return Err(fault_of(UnreadStretch { file, fault })),
-        }
-    }
-    Ok(files)
-}
-
-/// Sifts files, and tests their number, and then that of their splits.
-fn sift_fitting<'n, S: Store>(
     store: &S,
     alloc: Global,
     request: &Request,
@@ -210,7 +158,19 @@ fn sift_fitting<'n, S: Store>(
         (map (λ s. s.now) names.now) [] request.now.split) }
 {
     let most = most_of_each(names.len());
-    let files = sift_files(store, alloc, request, names, wanted, most)?;
+    let mut files = SiftedFiles {
+        sources: Vec::new(alloc),
+        excerpts: Vec::new(alloc),
+        lengths: Vec::new(alloc),
+        left: MAX_BYTES as u64,
+        splits: 0,
+    };
+    for (file, name) in names.iter().enumerate() {
+        match sift_file(store, alloc, name, request.job(), wanted, files.left, most) {
+            Ok(sifted) => files.add(name, sifted, request.split_size())?,
+            Err(fault) => return Err(fault_of(UnreadStretch { file, fault })),
+        }
+    }
     if names.len() > MAX_FILES {
         return Err(Fault::Input(InputFault::TooManyFiles));
     }
@@ -233,7 +193,7 @@ pub(crate) fn sift_input<'n, S: Store>(
         (S.unreadable store.now) (S.known_as store.now) options.now [] []) }
 {
     let request = request_of(alloc, options)?;
-    let files = sift_fitting(store, alloc, &request, options.files.as_slice(), wanted)?;
+    let files = sift_files(store, alloc, &request, options.files.as_slice(), wanted)?;
     let (sources, lengths) = (files.sources, files.lengths);
     match Input::of(files.excerpts) {
         Ok(input) => Ok(SiftedRun {

@@ -1,10 +1,9 @@
 //! The lines that commands print, and the history of a run as text.
-ghost use Rattle.std.specs.Prelude.{◌≡◌, ◌++◌, IfErr, IfOk, OnOk, string_bytes, decimal};
+ghost use Rattle.std.specs.Prelude.{◌≡◌, ◌++◌, IfErr, IfOk, OnOk, string_bytes};
 ghost use Rattle.mr_commands.specs.Facts.{AreAnswerFacts};
 ghost use Rattle.mr_commands.specs.Judgements.{IsSaid};
-ghost use Rattle.mr_commands.specs.YesLines.{left_out_line, yes_line, yes_text};
-ghost use Rattle.mr_commands.specs.Outcomes.{done_line};
-ghost use Rattle.mr_commands.specs.Runs.{certified_line, failed_line};
+ghost use Rattle.mr_commands.specs.YesLines.{left_out_line, yes_text};
+ghost use Rattle.mr_commands.specs.Outcomes.{counts_line};
 ghost use Rattle.mr_commands.specs.NoLines.{fault_text as text_of_fault, place_text};
 ghost use Rattle.mr_commands.specs.NoLines.{no_line as line_of_no};
 ghost use Rattle.mr_commands.specs.HistoryLines.{history_text};
@@ -14,9 +13,8 @@ use mr_args::Fault;
 use mr_book::History;
 use mr_bytes::RecordName;
 use mr_check::{No, Yes};
-use mr_core::JobFault;
 use mr_input::Input;
-use mr_picture::{add_line, fault_name, shape_line};
+use mr_picture::{add_line, shape_line};
 use mr_sequential::lengths_of;
 use std::alloc::{AllocError, Global};
 
@@ -28,13 +26,7 @@ pub struct CommandOutput {
     pub facts: Facts,
 }
 
-pub(crate) fn yes_line(alloc: Global, pairs: u64, left_out: usize) -> Result<String, AllocError>
-    ensures { IfOk result (λ text. string_bytes text ≡ yes_line pairs left_out) }
-{
-    format!(in alloc; "yes: {pairs} pairs, {left_out} left out\n")
-}
-
-pub(crate) fn add_left_out(text: &mut String, name: RecordName) -> Result<(), AllocError>
+fn add_left_out(text: &mut String, name: RecordName) -> Result<(), AllocError>
     ensures { OnOk result (string_bytes text.new ≡ string_bytes text.old ++ left_out_line name) }
 {
     let RecordName { split, rec } = name;
@@ -45,7 +37,8 @@ pub(crate) fn add_left_out(text: &mut String, name: RecordName) -> Result<(), Al
 pub(crate) fn yes_text(alloc: Global, yes: &Yes) -> Result<String, AllocError>
     ensures { IfOk result (λ text. string_bytes text ≡ yes_text yes.now.pairs yes.now.skips.items) }
 {
-    let mut text = yes_line(alloc, yes.pairs, yes.skips.len())?;
+    let (pairs, left_out) = (yes.pairs, yes.skips.len());
+    let mut text = format!(in alloc; "yes: {pairs} pairs, {left_out} left out\n")?;
     for name in yes.skips.as_slice() {
         add_left_out(&mut text, *name)?;
     }
@@ -62,59 +55,36 @@ pub(crate) fn say(
     ensures said { IfOk result (IsSaid answer.now) }
     ensures facts { IfOk result (λ said. AreAnswerFacts input.now answer.now said.facts) }
 {
-    let inputs = lengths_of(alloc, input)?;
-    let none = Vec::new(alloc);
-    match answer {
-        Ok(yes) => {
-            let text = yes_text(alloc, yes)?;
-            let left_out = yes.skips.len() as u64;
-            let job = JobFacts::uncounted(inputs, none, Some(left_out), Some(yes.pairs));
-            Ok(CommandOutput {
-                text,
-                status: 0,
-                facts: Facts::Job(job),
-            })
-        }
-        Err(No::OutOfMemory) => Err(Fault::OutOfMemory),
-        Err(no) => {
-            let text = no_line(alloc, no)?;
-            let job = JobFacts::uncounted(inputs, none, None, None);
-            Ok(CommandOutput {
-                text,
-                status: 1,
-                facts: Facts::Job(job),
-            })
-        }
-    }
+    let (text, status, left_out, pairs) = match answer {
+        Ok(yes) => (
+            yes_text(alloc, yes)?,
+            0,
+            Some(yes.skips.len() as u64),
+            Some(yes.pairs),
+        ),
+        Err(No::OutOfMemory) => return Err(Fault::OutOfMemory),
+        Err(no) => (no_line(alloc, no)?, 1, None, None),
+    };
+    let (inputs, parts) = (lengths_of(alloc, input)?, Vec::new(alloc));
+    let facts = Facts::Job(JobFacts::uncounted(inputs, parts, left_out, pairs));
+    Ok(CommandOutput {
+        text,
+        status,
+        facts,
+    })
 }
 
-pub(crate) fn certified_line(
+/// A word on a result, and what is counted of it.
+pub(crate) fn counts_line(
     alloc: Global,
+    word: &str,
     files: usize,
     pairs: u64,
     left_out: usize,
 ) -> Result<String, AllocError>
-    ensures { IfOk result (λ text. string_bytes text ≡ certified_line files pairs left_out) }
+    ensures { IfOk result (λ text. string_bytes text ≡ counts_line word.now files pairs left_out) }
 {
-    format!(in alloc; "certified: {files} files, {pairs} pairs, {left_out} left out\n")
-}
-
-pub(crate) fn failed_line(alloc: Global, fault: JobFault) -> Result<String, AllocError>
-    ensures { IfOk result (λ text. string_bytes text ≡ failed_line fault) }
-{
-    let name = fault_name(fault);
-    format!(in alloc; "failed: {name}\n")
-}
-
-pub(crate) fn done_line(
-    alloc: Global,
-    files: usize,
-    pairs: u64,
-    left_out: usize,
-) -> Result<String, AllocError>
-    ensures { IfOk result (λ text. string_bytes text ≡ done_line files pairs left_out) }
-{
-    format!(in alloc; "done: {files} files, {pairs} pairs, {left_out} left out\n")
+    format!(in alloc; "{word}{files} files, {pairs} pairs, {left_out} left out\n")
 }
 
 fn entry_text(
@@ -129,36 +99,18 @@ fn entry_text(
     format!(in alloc; "{fault} partition {partition} group {group} entry {entry}")
 }
 
-fn number_text(alloc: Global, told: &str, number: u64) -> Result<String, AllocError>
-    ensures { IfOk result (λ text. string_bytes text ≡ told.now ++ decimal number) }
-{
-    format!(in alloc; "{told}{number}")
-}
-
-fn numbers_text(
-    alloc: Global,
-    told: &str,
-    first: u64,
-    between: &str,
-    second: u64,
-) -> Result<String, AllocError>
-    ensures { IfOk result (λ text. string_bytes text ≡ told.now ++ (decimal first ++ (between.now ++ decimal second))) }
-{
-    format!(in alloc; "{told}{first}{between}{second}")
-}
-
 /// A judge's fault as a line has it.
 pub fn fault_text(alloc: Global, no: &No) -> Result<String, AllocError>
     ensures { IfOk result (λ text. string_bytes text ≡ text_of_fault no.now) }
 {
     match *no {
         No::OutputCount => String::from_str(alloc, "OutputCount"),
-        No::Malformed { at } => number_text(alloc, "Malformed at ", at),
+        No::Malformed { at } => format!(in alloc; "Malformed at {at}"),
         No::OtherJob => String::from_str(alloc, "OtherJob"),
         No::OtherInput => String::from_str(alloc, "OtherInput"),
-        No::SkipOrder { skip } => number_text(alloc, "SkipOrder skip ", skip),
-        No::NoSuchRecord { skip } => number_text(alloc, "NoSuchRecord skip ", skip),
-        No::TooManySkips { listed } => number_text(alloc, "TooManySkips listed ", listed),
+        No::SkipOrder { skip } => format!(in alloc; "SkipOrder skip {skip}"),
+        No::NoSuchRecord { skip } => format!(in alloc; "NoSuchRecord skip {skip}"),
+        No::TooManySkips { listed } => format!(in alloc; "TooManySkips listed {listed}"),
         No::NoSuchPair {
             partition,
             group,
@@ -185,10 +137,10 @@ pub fn fault_text(alloc: Global, no: &No) -> Result<String, AllocError>
             entry,
         } => entry_text(alloc, "KeyOrder", partition, group, entry),
         No::OutputDiffers { partition, at } => {
-            numbers_text(alloc, "OutputDiffers partition ", partition, " at ", at)
+            format!(in alloc; "OutputDiffers partition {partition} at {at}")
         }
         No::Unnamed { emitted, named } => {
-            numbers_text(alloc, "Unnamed emitted ", emitted, " named ", named)
+            format!(in alloc; "Unnamed emitted {emitted} named {named}")
         }
         No::OutOfMemory => String::from_str(alloc, "OutOfMemory"),
         No::Device(_) => String::from_str(alloc, "Device"),

@@ -1,11 +1,12 @@
-use Rattle.std.proofs.Common.{inl, inr, subst}
+use Rattle.std.proofs.Common.{◌++◌, inl, inr, subst}
 use Rattle.std.proofs.lemmas.Result.{err_from_is_err_and}
 use Rattle.mr_core.specs.declared.event.Shape.{Shape}
 use Rattle.mr_jobs.specs.JobSpec.{RequestSpec}
-use Rattle.mr_commands.specs.Inputs.{IsInput}
-use Rattle.mr_commands.specs.Named.{stretch_of}
+use Rattle.mr_files.specs.Identities.{AreApart}
+use Rattle.mr_commands.specs.Inputs.{IsInput, IsInputRefusal}
+use Rattle.mr_commands.specs.Named.{input_names, stretch_of}
 use Rattle.mr_commands.specs.Runs.{AreGood, EndsOver, scratch_name}
-use Rattle.mr_commands.proofs.JudgingRefused.{asked}
+use Rattle.mr_commands.proofs.JudgingRefused.{asked, by_names}
 use Rattle.mr_commands.proofs.Kept.{script_stage, input_stage, scratch_stage, runs}
 use Rattle.mr_commands.proofs.running.test_and_run.Goals as goal
 
@@ -35,8 +36,10 @@ returns-in_err-input-clause-refused g c =
       workers = c.in_ok-expect_crew.ensures.workers;
       attempts = c.in_ok-expect_crew.ensures.attempts;
     } in
+    let refused = by_names (λ b w. IsInputRefusal (g.S.Store.holds c.args.store.now) (g.S.Store.unreadable c.args.store.now) (g.S.Store.known_as c.args.store.now) (stretch_of o.options)
+    (b ++ input_names o.options) w c.in_ok-request.request.split c.in_err-input.field-0.0) _ _ _ _ c.in_ok-besides.ensures c.in_ok-written.ensures c.in_err-input.ensures.refused in
     rw p.1 (rw p.2 (input_stage (g.S.Store.holds c.args.store.now) (g.S.Store.unreadable c.args.store.now) (g.S.Store.alike c.args.store.now) (g.S.Store.known_as c.args.store.now) o c.in_ok-script.script c.in_ok-request.request c.in_err-input.field-0.0
-    c.in_ok-request.ensures.request good c.in_ok-script.ensures.script c.in_err-input.ensures.refused))
+    c.in_ok-request.ensures.request good c.in_ok-script.ensures.script refused))
 
 pub returns-clause-runs : goal.returns-clause-runs
 returns-clause-runs g c =
@@ -46,15 +49,16 @@ returns-clause-runs g c =
     let request = c.in_ok-request.request in
     let files = c.in_ok-input.input in
     let script = c.in_ok-script.script in
+    let apart = by_names (λ b w. AreApart (g.S.Store.known_as c.args.store.now) (b ++ input_names c.args.asked.now.options) w) _ _ _ _ c.in_ok-besides.ensures c.in_ok-written.ensures c.in_ok-input.ensures.apart in
     runs holds (g.S.Store.unreadable c.args.store.now) (g.S.Store.alike c.args.store.now) known o script files request c.in_ok-ran.ran
-    c.in_ok-request.ensures.request c.in_ok-script.ensures.script c.in_ok-input.ensures.input c.in_ok-input.ensures.apart
+    c.in_ok-request.ensures.request c.in_ok-script.ensures.script (c.in_ok-input.field-0-1, c.in_ok-input.ensures.input) apart
     (subst (λ (shape : Shape). EndsOver (scratch_name o) request files script shape o.version c.in_ok-ran.ran) c.shape_of.ensures.shape c.in_ok-ran.ensures.ends)
 
 pub returns-clause-inputs : goal.returns-clause-inputs
 returns-clause-inputs g c =
     let o = c.args.asked.now.options in (
       c.in_ok-input.input,
-      subst (λ (v : RequestSpec). IsInput (g.S.Store.holds c.args.store.now) (stretch_of o) v.split c.in_ok-input.input) c.in_ok-request.ensures.request c.in_ok-input.ensures.input,
+      subst (λ (v : RequestSpec). IsInput (g.S.Store.holds c.args.store.now) (stretch_of o) v.split c.in_ok-input.input) c.in_ok-request.ensures.request (c.in_ok-input.field-0-1, c.in_ok-input.ensures.input),
       c.in_ok-inputs.ensures,
     )
 
@@ -67,9 +71,10 @@ returns-in_err-expect_scratch_apart-clause-refused g c =
       workers = c.in_ok-expect_crew.ensures.workers;
       attempts = c.in_ok-expect_crew.ensures.attempts;
     } in
+    let apart = by_names (λ b w. AreApart (g.S.Store.known_as c.args.store.now) (b ++ input_names c.args.asked.now.options) w) _ _ _ _ c.in_ok-besides.ensures c.in_ok-written.ensures c.in_ok-input.ensures.apart in
     rw p.1 (rw p.2 (scratch_stage (g.S.Store.holds c.args.store.now) (g.S.Store.unreadable c.args.store.now) (g.S.Store.alike c.args.store.now) (g.S.Store.known_as c.args.store.now) o
     c.in_ok-script.script c.in_ok-input.input c.in_ok-request.request c.in_err-expect_scratch_apart.field-0.0
-    c.in_ok-request.ensures.request good c.in_ok-script.ensures.script c.in_ok-input.ensures.input c.in_ok-input.ensures.apart (inl c.in_err-expect_scratch_apart.ensures)))
+    c.in_ok-request.ensures.request good c.in_ok-script.ensures.script (c.in_ok-input.field-0-1, c.in_ok-input.ensures.input) apart (inl c.in_err-expect_scratch_apart.ensures)))
 
 pub returns-in_err-ran-clause-refused : goal.returns-in_err-ran-clause-refused
 returns-in_err-ran-clause-refused g c =
@@ -84,5 +89,6 @@ returns-in_err-ran-clause-refused g c =
       workers = c.in_ok-expect_crew.ensures.workers;
       attempts = c.in_ok-expect_crew.ensures.attempts;
     } in
+    let apart = by_names (λ b w. AreApart (g.S.Store.known_as c.args.store.now) (b ++ input_names c.args.asked.now.options) w) _ _ _ _ c.in_ok-besides.ensures c.in_ok-written.ensures c.in_ok-input.ensures.apart in
     rw p.1 (rw p.2 (scratch_stage holds unreadable alike known o c.in_ok-script.script c.in_ok-input.input c.in_ok-request.request c.in_err-ran.field-0.0
-    c.in_ok-request.ensures.request good c.in_ok-script.ensures.script c.in_ok-input.ensures.input c.in_ok-input.ensures.apart (inr c.in_err-ran.ensures.refused)))
+    c.in_ok-request.ensures.request good c.in_ok-script.ensures.script (c.in_ok-input.field-0-1, c.in_ok-input.ensures.input) apart (inr c.in_err-ran.ensures.refused)))
