@@ -24,8 +24,6 @@ use mr_files::{
     FileFault, NamedReader, ReadCause, ResultReaders, Store, names_of_result, result_readers,
     write_file,
 };
-use mr_input::Input;
-use mr_jobs::Request;
 use mr_store::CountedRead;
 use std::alloc::Global;
 use std::thread::Threads;

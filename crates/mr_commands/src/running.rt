@@ -30,8 +30,6 @@ use mr_bytes::{OpenGate, Progress};
 use mr_check::No;
 use mr_core::JobFault;
 use mr_files::{FileFault, Store, add_names, folder_of, names_of_result, read_file, write_file};
-use mr_input::Input;
-use mr_jobs::Request;
 use mr_picture::fault_name;
 use mr_pool::{Certified, Environment, RunFault, RunSpec, run_watched, shape_of};
 use mr_script::Script;
