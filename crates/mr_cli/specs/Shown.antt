@@ -9,12 +9,9 @@ is_obeyed lines before b = (nat_lt b 0x20 && not (lines && (b == 0x0A))) || ((b 
 abbrev pub hex_digit : ℕ → ℕ
 hex_digit n = if nat_lt n 10 then 0x30 + n else 0x57 + n
 
--- `\x1b` for the byte 0x1B
-abbrev pub number_shown : ℕ → List ℕ
-number_shown b = 0x5C ∷ 0x78 ∷ hex_digit (b / 16) ∷ hex_digit (b % 16) ∷ []
-
+-- the byte, or its number, as `\x1b` for 0x1B
 abbrev pub byte_shown : Bool → ℕ → ℕ → List ℕ
-byte_shown lines before b = if is_obeyed lines before b then number_shown b else b ∷ []
+byte_shown lines before b = if is_obeyed lines before b then 0x5C ∷ 0x78 ∷ hex_digit (b / 16) ∷ hex_digit (b % 16) ∷ [] else b ∷ []
 
 -- the bytes of a text, behind that byte
 unfoldable pub text_shown : Bool → ℕ → List ℕ → List ℕ

@@ -18,51 +18,33 @@ struct Front {
     parts: u32,
     split: u32,
     lengths: Vec<u64>,
-    is_whole: bool,
 }
 
-impl Front {
-    fn new(alloc: Global) -> Front {
-        Front {
-            job: 0,
-            flags: 0,
-            literal: Vec::new(alloc),
-            parts: 0,
-            split: 0,
-            lengths: Vec::new(alloc),
-            is_whole: false,
-        }
-    }
-
-    fn take(&mut self, item: Item) -> Result<(), AllocError> {
-        match item {
-            Item::Job(n) => self.job = n,
-            Item::Flags(n) => self.flags = n,
-            Item::LiteralByte(b) => self.literal.push(b)?,
-            Item::Parts(n) => self.parts = n,
-            Item::SplitSize(n) => self.split = n,
-            Item::FileLength(n) => self.lengths.push(n)?,
-            Item::Skips(_) => self.is_whole = true,
-            _ => {}
-        }
-        Ok(())
-    }
-}
-
-/// The front of a certificate, as far as it can be read.
-fn front_of(alloc: Global, bytes: &[u8]) -> Result<Front, AllocError> {
+/// The front of a certificate; none if it can't be read as a whole.
+fn front_of(alloc: Global, bytes: &[u8]) -> Result<Option<Front>, AllocError> {
     let mut walker = Walker::new(bytes);
-    let mut front = Front::new(alloc);
+    let mut front = Front {
+        job: 0,
+        flags: 0,
+        literal: Vec::new(alloc),
+        parts: 0,
+        split: 0,
+        lengths: Vec::new(alloc),
+    };
     for _ in 0..MOST_ITEMS {
-        if front.is_whole {
-            return Ok(front);
-        }
         match walker.next() {
-            Ok(item) => front.take(item)?,
-            Err(_) => return Ok(front),
+            Ok(Item::Job(n)) => front.job = n,
+            Ok(Item::Flags(n)) => front.flags = n,
+            Ok(Item::LiteralByte(b)) => front.literal.push(b)?,
+            Ok(Item::Parts(n)) => front.parts = n,
+            Ok(Item::SplitSize(n)) => front.split = n,
+            Ok(Item::FileLength(n)) => front.lengths.push(n)?,
+            Ok(Item::Skips(_)) => return Ok(Some(front)),
+            Ok(_) => {}
+            Err(_) => break,
         }
     }
-    Ok(front)
+    Ok(None)
 }
 
 fn add_where(text: &mut String, holds: bool, word: &str) -> Result<(), AllocError> {
@@ -91,8 +73,7 @@ fn add_field(text: &mut String, literal: &str) -> Result<(), AllocError> {
 
 fn add_options(text: &mut String, front: &Front) -> Result<(), AllocError> {
     let job = JOBS.get((front.job as usize).wrapping_sub(1));
-    let job = job.copied().unwrap_or("(no such job)");
-    write!(text, " --job {job}")?;
+    write!(text, " --job {}", job.copied().unwrap_or("(no such job)"))?;
     let literal = str::from_utf8(front.literal.as_slice()).unwrap_or("(bytes that are not UTF-8)");
     match front.job {
         2 => write!(text, " --literal '{literal}'")?,
@@ -104,44 +85,25 @@ fn add_options(text: &mut String, front: &Front) -> Result<(), AllocError> {
     write!(text, " --parts {parts} --split {split}")
 }
 
-/// Adds the options in which the certificate differs from the request.
-fn add_others(text: &mut String, front: &Front, request: &Request) -> Result<(), AllocError> {
-    let job = request.job();
-    let is_same = front.job == job.number();
-    add_where(text, !is_same, "--job")?;
-    let own = match front.job {
-        5 => "--field or --separator",
-        _ => "--literal",
-    };
-    add_where(
-        text,
-        is_same && front.literal.as_slice() != job.literal(),
-        own,
-    )?;
-    if is_same {
-        add_flags(text, front.flags ^ request.flags())?;
-    }
-    add_where(text, front.parts != request.parts(), "--parts")?;
-    add_where(text, front.split != request.split_size(), "--split")
-}
-
+/// The options in which the certificate differs from the request, and those that it is of.
 fn job_difference(alloc: Global, front: &Front, request: &Request) -> Result<String, AllocError> {
     let mut text = String::from_str(alloc, "the certificate has other")?;
-    add_others(&mut text, front, request)?;
-    write!(&mut text, ": it is of")?;
+    if front.job == request.job().number() {
+        let own = match front.job {
+            5 => "--field or --separator",
+            _ => "--literal",
+        };
+        let is_other = front.literal.as_slice() != request.job().literal();
+        add_where(&mut text, is_other, own)?;
+        add_flags(&mut text, front.flags ^ request.flags())?;
+    } else {
+        text.push_str(" --job")?;
+    }
+    add_where(&mut text, front.parts != request.parts(), "--parts")?;
+    add_where(&mut text, front.split != request.split_size(), "--split")?;
+    text.push_str(": it is of")?;
     add_options(&mut text, front)?;
     Ok(text)
-}
-
-/// How many bytes are taken of the file with that number, which has so many.
-fn taken_of(options: &Options<'_>, file: usize, length: u64) -> u64 {
-    let from = if file == 0 { options.from } else { 0 };
-    let is_last = file.saturating_add(1) == options.files.len();
-    let to = match options.to {
-        Some(to) if is_last => to.min(length),
-        _ => length,
-    };
-    to.saturating_sub(from)
 }
 
 /// Another number of files, or the first file of which other bytes are taken, by their number.
@@ -160,18 +122,20 @@ fn input_difference<L: Inspect>(
         let PathKind::File(now) = look.path_kind(name) else {
             continue;
         };
-        let taken = taken_of(options, file, now);
-        if taken == *length {
-            continue;
-        }
-        return match taken == now {
-            true => format!(in alloc;
-                "{name} has {now} bytes, and had {length} by the certificate"
-            ),
-            false => format!(in alloc;
-                "{taken} bytes of {name} are taken, and by the certificate it were {length}"
-            ),
+        let from = if file == 0 { options.from } else { 0 };
+        let to = match options.to {
+            Some(to) if file.saturating_add(1) == is => to.min(now),
+            _ => now,
         };
+        let taken = to.saturating_sub(from);
+        if taken != *length && taken == now {
+            return format!(in alloc; "{name} has {now} bytes, and had {length} by the certificate");
+        }
+        if taken != *length {
+            return format!(in alloc;
+                "{taken} bytes of {name} are taken, and by the certificate it were {length}"
+            );
+        }
     }
     Ok(String::new(alloc))
 }
@@ -184,19 +148,14 @@ pub fn check_hint<S: Store + Inspect>(
     said: &str,
 ) -> Result<String, AllocError> {
     let is_other_job = said == "no: OtherJob\n";
-    if !is_other_job && said != "no: OtherInput\n" {
-        return Ok(String::new(alloc));
+    if (is_other_job || said == "no: OtherInput\n")
+        && let Ok(bytes) = read_file(store, alloc, certificate_name(alloc, options.out)?.as_str())
+        && let Some(front) = front_of(alloc, bytes.as_slice())?
+    {
+        return match request_of(alloc, options) {
+            Ok(request) if is_other_job => job_difference(alloc, &front, &request),
+            _ => input_difference(store, alloc, &front, options),
+        };
     }
-    let name = certificate_name(alloc, options.out)?;
-    let Ok(bytes) = read_file(store, alloc, name.as_str()) else {
-        return Ok(String::new(alloc));
-    };
-    let front = front_of(alloc, bytes.as_slice())?;
-    if !front.is_whole {
-        return Ok(String::new(alloc));
-    }
-    match request_of(alloc, options) {
-        Ok(request) if is_other_job => job_difference(alloc, &front, &request),
-        _ => input_difference(store, alloc, &front, options),
-    }
+    Ok(String::new(alloc))
 }

@@ -4,7 +4,7 @@ ghost use Rattle.std.specs.Prelude.{◌≡◌, ◌↔◌, IsTrue, ◌<◌, ◌++
 ghost use Rattle.std.specs.IoError.{error_kind};
 ghost use Rattle.mr_cli.specs.Statuses.{IsHelp, IsStatus, ReportsWords};
 ghost use Rattle.mr_cli.specs.Shown.{byte_shown, hex_digit as digit_of, is_obeyed as obeys};
-ghost use Rattle.mr_cli.specs.Shown.{number_shown, text_shown};
+ghost use Rattle.mr_cli.specs.Shown.{text_shown};
 
 use mr_args::Fault;
 use std::alloc::{AllocError, Global};
@@ -83,10 +83,7 @@ impl Failure {
     pub fn is_help(&self) -> bool
         ensures { IsTrue result ↔ IsHelp self.now }
     {
-        match self {
-            Failure::Line(error) => !error.use_stderr(),
-            _ => false,
-        }
+        matches!(self, Failure::Line(error) if !error.use_stderr())
     }
 }
 
@@ -116,22 +113,16 @@ fn hex_digit(n: u8) -> u8
     if n < 10 { b'0' + n } else { 0x57 + n }
 }
 
-/// Adds the byte as `\x1b`.
-fn add_number(out: &mut Vec<u8>, byte: u8) -> Result<(), AllocError>
-    ensures { OnOk result (out.new.items ≡ out.old.items ++ number_shown byte) }
-{
-    let number = [b'\\', b'x', hex_digit(byte / 16), hex_digit(byte % 16)];
-    out.extend_from_slice(&number)?;
-    Ok(())
-}
-
+/// Adds the byte, as `\x1b` if a terminal obeys it.
 fn add_byte(out: &mut Vec<u8>, lines: bool, before: u8, byte: u8) -> Result<(), AllocError>
     ensures { OnOk result (out.new.items ≡ out.old.items ++ byte_shown lines before byte) }
 {
     if is_obeyed(lines, before, byte) {
-        return add_number(out, byte);
+        let number = [b'\\', b'x', hex_digit(byte / 16), hex_digit(byte % 16)];
+        out.extend_from_slice(&number)?;
+    } else {
+        out.extend_from_slice(&[byte])?;
     }
-    out.extend_from_slice(&[byte])?;
     Ok(())
 }
 

@@ -68,10 +68,10 @@ impl<'a, R: Files + Alloc + Clone + Drop> ResultFiles<'a, R> {
         if !seen.is_dir() || seen.dev() != fs::metadata(self.rt, parent)?.dev() {
             return Err(io::Error::from(ErrorKind::ResourceBusy));
         }
-        match fs::read_dir(self.rt, dir)?.next() {
-            Some(_) => Err(io::Error::from(ErrorKind::DirectoryNotEmpty)),
-            None => Ok(Some(seen)),
+        if fs::read_dir(self.rt, dir)?.next().is_some() {
+            return Err(io::Error::from(ErrorKind::DirectoryNotEmpty));
         }
+        Ok(Some(seen))
     }
 
     /// Makes the directory beside `dir`, with the permissions that `dir` has.
@@ -107,12 +107,10 @@ impl<'a, R: Files + Alloc + Clone + Drop> ResultFiles<'a, R> {
     pub fn begin(&mut self, dir: &str) -> Result<(), Failure> {
         let dir = String::from_str(self.alloc, dir)?;
         match self.make_beside(dir.as_str().trim_end_matches('/')) {
-            Ok(beside) => {
-                self.moved = Some(Moved { dir, beside });
-                Ok(())
-            }
-            Err(error) => Err(self.failure(dir, error)),
+            Ok(beside) => self.moved = Some(Moved { dir, beside }),
+            Err(error) => return Err(self.failure(dir, error)),
         }
+        Ok(())
     }
 
     /// Puts the directory beside in the place of its own if the command succeeded; else removes it.
@@ -123,20 +121,17 @@ impl<'a, R: Files + Alloc + Clone + Drop> ResultFiles<'a, R> {
         let Some(Moved { dir, beside }) = self.moved.take() else {
             return answered;
         };
-        let mut refused = None;
-        if let Ok(said) = &answered
-            && said.status == 0
-        {
-            let placed = fs::rename(self.rt, beside.as_str(), dir.as_str().trim_end_matches('/'));
-            match placed {
-                Ok(()) => return answered,
-                Err(error) => refused = Some(error),
-            }
+        let is_done = matches!(&answered, Ok(said) if said.status == 0);
+        let placed = match is_done {
+            true => fs::rename(self.rt, beside.as_str(), dir.as_str().trim_end_matches('/')),
+            false => Ok(()),
+        };
+        if !is_done || placed.is_err() {
+            let _ = fs::remove_dir_all(self.rt, beside.as_str());
         }
-        let _ = fs::remove_dir_all(self.rt, beside.as_str());
-        match refused {
-            Some(error) => Err(self.failure(dir, error)),
-            None => answered,
+        match placed {
+            Ok(()) => answered,
+            Err(error) => Err(self.failure(dir, error)),
         }
     }
 }
@@ -174,18 +169,15 @@ impl<'a, R: Files> Store for ResultFiles<'a, R> {
     }
 
     fn identity(&self, alloc: Global, name: &str) -> Result<Option<String>, AllocError> {
-        let place = self.place(name)?;
-        self.disk.identity(alloc, place.as_str())
+        self.disk.identity(alloc, self.place(name)?.as_str())
     }
 
     fn try_open(&self, name: &str) -> Result<(), ReadFault> {
-        let place = self.place(name)?;
-        self.disk.try_open(place.as_str())
+        self.disk.try_open(self.place(name)?.as_str())
     }
 
     fn reader_from(&self, alloc: Global, name: &str, at: u64) -> Result<Self::Reader, ReadFault> {
-        let place = self.place(name)?;
-        self.disk.reader_from(alloc, place.as_str(), at)
+        self.disk.reader_from(alloc, self.place(name)?.as_str(), at)
     }
 
     fn writer(&mut self, alloc: Global, name: &str) -> Result<Self::Writer, WriteFault> {

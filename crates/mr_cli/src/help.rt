@@ -23,16 +23,16 @@ pub fn is_of(row: &str, letter: char) -> bool {
     column(row, 0).contains(letter)
 }
 
-fn add_spaces(out: &mut String, many: usize) -> Result<(), AllocError> {
-    for _ in 0..many {
-        out.push(' ')?;
-    }
-    Ok(())
-}
-
-/// Adds the words of a text from column `after` on, behind what the line has: `width` columns.
-fn add_words(out: &mut String, width: usize, after: usize, text: &str) -> Result<(), AllocError> {
-    let mut width = width;
+/// Adds a name, and the words of its text from column `after` on.
+fn add_row(
+    out: &mut String,
+    indent: &str,
+    name: &str,
+    after: usize,
+    text: &str,
+) -> Result<(), AllocError> {
+    write!(out, "{indent}{name}")?;
+    let mut width = indent.len().saturating_add(name.len());
     if width > 0 && width >= after {
         out.push('\n')?;
         width = 0;
@@ -42,12 +42,10 @@ fn add_words(out: &mut String, width: usize, after: usize, text: &str) -> Result
             out.push('\n')?;
             width = 0;
         }
-        let gap = if width > after {
-            1
-        } else {
-            after.saturating_sub(width)
-        };
-        add_spaces(out, gap)?;
+        let gap = if width > after { 1 } else { after - width };
+        for _ in 0..gap {
+            out.push(' ')?;
+        }
         out.push_str(word)?;
         width = width.saturating_add(gap).saturating_add(word.len());
     }
@@ -55,40 +53,15 @@ fn add_words(out: &mut String, width: usize, after: usize, text: &str) -> Result
     Ok(())
 }
 
-/// Adds a name, and the words of its text from column `after` on.
-fn add_row(
-    out: &mut String,
-    indent: &str,
-    name: &str,
-    after: usize,
-    text: &str,
-) -> Result<(), AllocError> {
-    out.push_str(indent)?;
-    out.push_str(name)?;
-    add_words(out, indent.len().saturating_add(name.len()), after, text)
-}
-
 /// Adds each line of a text, as far to the right as it stands there.
 fn add_text(out: &mut String, text: &str) -> Result<(), AllocError> {
     for line in text.split('\n') {
+        let words = line.trim_start();
         match line.split_once(" | ") {
             Some((name, meaning)) => add_row(out, "", name, AFTER_NAME, meaning)?,
-            None => {
-                let words = line.trim_start();
-                add_words(out, 0, line.len().saturating_sub(words.len()), words)?;
-            }
+            None => add_row(out, "", "", line.len().saturating_sub(words.len()), words)?,
         }
     }
-    Ok(())
-}
-
-fn add_choice(text: &mut String, values: &[&str]) -> Result<(), AllocError> {
-    let mut before = " [possible values: ";
-    for value in values {
-        write!(text, "{before}{value}")?;
-        before = ", ";
-    }
-    text.push_str("]")?;
     Ok(())
 }
 
@@ -101,15 +74,15 @@ fn add_option(out: &mut String, alloc: Global, row: &str) -> Result<(), AllocErr
     if !default.is_empty() && default != "needed" {
         write!(&mut text, " [default: {default}]")?;
     }
-    match column(row, 2) {
-        "job" => add_choice(&mut text, JOBS.as_slice())?,
-        "hints" => add_choice(&mut text, HINTS.as_slice())?,
-        _ => {}
+    for (takes, texts) in [("job", JOBS.as_slice()), ("hints", HINTS.as_slice())] {
+        if column(row, 2) == takes {
+            let choices = texts.join(alloc, ", ")?;
+            write!(&mut text, " [possible values: {choices}]")?;
+        }
     }
-    let indent = if shown.starts_with("--") {
-        "      "
-    } else {
-        "  "
+    let indent = match shown.starts_with("--") {
+        true => "      ",
+        false => "  ",
     };
     add_row(out, indent, shown, AFTER_OPTION, text.as_str())
 }
@@ -145,17 +118,13 @@ fn add_usage(out: &mut String, alloc: Global, letter: char, name: &str) -> Resul
     add_row(out, "Usage:", "", 7, usage.as_str())
 }
 
-/// Whether the fault is an answer on standard output, which names what is in front of its colon.
-fn is_answer(name: &str) -> bool {
-    name.contains(": ")
-}
-
-/// The faults, or the answers that are no success.
+/// The faults, or the answers that are no success: on standard output, they name what is in front of
+/// their colon.
 fn faults(alloc: Global, letter: char, are_answers: bool) -> Result<String, AllocError> {
     let mut out = String::new(alloc);
     for row in FAULTS {
         let name = column(row, 1);
-        if is_of(row, letter) && is_answer(name) == are_answers {
+        if is_of(row, letter) && name.contains(": ") == are_answers {
             let helps = remedy(alloc, row)?;
             add_row(&mut out, "  ", name, AFTER_NAME, helps.as_str())?;
         }
@@ -165,7 +134,7 @@ fn faults(alloc: Global, letter: char, are_answers: bool) -> Result<String, Allo
 
 fn help_of_command(alloc: Global, row: CommandRow<'_>) -> Result<String, AllocError> {
     let mut out = String::new(alloc);
-    add_words(&mut out, 0, 0, row.about)?;
+    add_row(&mut out, "", "", 0, row.about)?;
     add_usage(&mut out, alloc, row.letter, row.name)?;
     add_section(&mut out, "Arguments", options(alloc, row.letter, false)?)?;
     add_section(&mut out, "Options", options(alloc, row.letter, true)?)?;
@@ -174,29 +143,21 @@ fn help_of_command(alloc: Global, row: CommandRow<'_>) -> Result<String, AllocEr
     for note in NOTES {
         if is_of(note, row.letter) {
             out.push('\n')?;
-            add_words(&mut out, 0, 0, column(note, 1))?;
+            add_row(&mut out, "", "", 0, column(note, 1))?;
         }
     }
-    let (answers, faults) = (
-        faults(alloc, row.letter, true)?,
-        faults(alloc, row.letter, false)?,
-    );
-    add_section(
-        &mut out,
-        "Answers that are no success, and what helps",
-        answers,
-    )?;
-    add_section(
-        &mut out,
-        "Faults, each behind `mapred: `, and what helps",
-        faults,
-    )?;
+    for (title, are_answers) in [
+        ("Answers that are no success, and what helps", true),
+        ("Faults, each behind `mapred: `, and what helps", false),
+    ] {
+        add_section(&mut out, title, faults(alloc, row.letter, are_answers)?)?;
+    }
     Ok(out)
 }
 
 fn help_of_program(alloc: Global) -> Result<String, AllocError> {
     let mut out = String::new(alloc);
-    add_words(&mut out, 0, 0, PROGRAM.about)?;
+    add_row(&mut out, "", "", 0, PROGRAM.about)?;
     out.push_str("\nUsage: mapred <COMMAND>\n\nCommands:\n")?;
     for row in COMMANDS {
         add_row(&mut out, "  ", row.name, AFTER_COMMAND, row.about)?;
@@ -217,16 +178,12 @@ pub fn help_texts(alloc: Global, words: &[String]) -> Result<Vec<String>, AllocE
     if !says("help") && !says("--help") && !words.iter().any(|word| word.starts_with("-h")) {
         return Ok(texts);
     }
-    texts
-        .push(help_of_program(alloc)?)
-        .map_err(AllocError::from)?;
+    texts.push(help_of_program(alloc)?)?;
     for row in COMMANDS {
-        let text = if says(row.name) {
-            help_of_command(alloc, row)?
-        } else {
-            String::new(alloc)
-        };
-        texts.push(text).map_err(AllocError::from)?;
+        texts.push(match says(row.name) {
+            true => help_of_command(alloc, row)?,
+            false => String::new(alloc),
+        })?;
     }
     Ok(texts)
 }
@@ -234,13 +191,9 @@ pub fn help_texts(alloc: Global, words: &[String]) -> Result<Vec<String>, AllocE
 /// What helps against the fault of the row: its text, or the limits of the option that it names.
 fn remedy(alloc: Global, fault: &str) -> Result<String, AllocError> {
     let helps = column(fault, 2);
-    if !helps.starts_with("--") || helps.contains(' ') {
-        return String::from_str(alloc, helps);
-    }
     for row in OPTIONS {
-        let limits = column(row, 4);
-        if column(row, 1).starts_with(helps) {
-            return format!(in alloc; "{helps} is {limits}");
+        if helps.starts_with("--") && !helps.contains(' ') && column(row, 1).starts_with(helps) {
+            return format!(in alloc; "{helps} is {}", column(row, 4));
         }
     }
     String::from_str(alloc, helps)
@@ -260,11 +213,9 @@ fn says(line: &str, name: &str) -> bool {
 pub fn hint(alloc: Global, letter: Option<char>, line: &str) -> Result<String, AllocError> {
     let said = line.strip_prefix("mapred: ").unwrap_or(line);
     for row in FAULTS {
-        let is_of_it = match letter {
-            Some(letter) => is_of(row, letter),
-            None => true,
-        };
-        if is_of_it && column(row, 1).split(", ").any(|name| says(said, name)) {
+        if letter.is_none_or(|letter| is_of(row, letter))
+            && column(row, 1).split(", ").any(|name| says(said, name))
+        {
             return remedy(alloc, row);
         }
     }

@@ -5,6 +5,7 @@
 //! It reads up to 16 MiB in front of the byte and behind it, in pieces, and gives up at a fault or
 //! if it sees no line feed there and no end of the file.
 
+use mr_args::Options;
 use mr_files::Store;
 use mr_store::CountedRead;
 use std::alloc::{AllocError, Global};
@@ -13,18 +14,6 @@ const PIECE: usize = 65_536;
 
 /// How many pieces it reads at most on each side.
 const MOST_PIECES: u64 = 256;
-
-/// The place behind the last line feed of the piece that ends at most so far from its beginning.
-fn last_line(piece: &[u8], most: u64) -> Option<u64> {
-    let mut last = None;
-    for (at, byte) in piece.iter().enumerate() {
-        let behind = (at as u64).saturating_add(1);
-        if *byte == b'\n' && behind <= most {
-            last = Some(behind);
-        }
-    }
-    last
-}
 
 /// The last place in front of the byte where a line begins.
 fn line_before<S: Store>(store: &S, alloc: Global, name: &str, byte: u64) -> Option<u64> {
@@ -37,8 +26,9 @@ fn line_before<S: Store>(store: &S, alloc: Global, name: &str, byte: u64) -> Opt
             return line;
         }
         let count = reader.read(&mut piece).ok()?;
-        if let Some(behind) = last_line(piece.get(..count)?, byte.saturating_sub(place)) {
-            line = Some(place.saturating_add(behind));
+        let front = (byte - place).min(count as u64) as usize;
+        if let Some(at) = piece.get(..front)?.iter().rposition(|byte| *byte == b'\n') {
+            line = Some(place.saturating_add(at as u64).saturating_add(1));
         }
         place = place.saturating_add(count as u64);
     }
@@ -63,20 +53,22 @@ fn line_behind<S: Store>(store: &S, alloc: Global, name: &str, byte: u64) -> Opt
     None
 }
 
-/// The hint for a byte inside a line; empty if the nearest lines can't be found.
+/// The hint for a byte inside a line of the file with that number; empty if the nearest lines can't
+/// be found.
 pub fn line_hint<S: Store>(
     store: &S,
     alloc: Global,
-    name: &str,
+    options: Option<&Options<'_>>,
+    file: usize,
     byte: u64,
 ) -> Result<String, AllocError> {
-    match (
-        line_before(store, alloc, name, byte),
-        line_behind(store, alloc, name, byte),
-    ) {
-        (Some(before), Some(behind)) => format!(in alloc;
+    if let Some(name) = options.and_then(|options| options.files.get(file))
+        && let Some(before) = line_before(store, alloc, name, byte)
+        && let Some(behind) = line_behind(store, alloc, name, byte)
+    {
+        return format!(in alloc;
             "--from and --to stand where a line begins, or at the file's end: the nearest in {name} are {before} and {behind}"
-        ),
-        _ => Ok(String::new(alloc)),
+        );
     }
+    Ok(String::new(alloc))
 }

@@ -2,7 +2,8 @@
 //! share done, lost workers. The first thread that reports draws it, at most a few times a second; it
 //! is wiped before any other output. No clause speaks of it, and it doesn't influence the work.
 
-use mr_args::{Options, Subcommand};
+use crate::options::letter_and_options;
+use mr_args::{Options, RunOptions, SeqOptions, Subcommand};
 use mr_bytes::{Phase, Progress};
 use mr_files::{Inspect, PathKind, certificate_name, part_name, verdict_name};
 use std::alloc::{AllocError, Global};
@@ -29,31 +30,24 @@ pub struct ProgressLine<C: Clock> {
     stands: AtomicBool,
 }
 
-/// Milliseconds of the clock; none if it can't be read.
-fn now<C: Clock>(clock: &C) -> Option<u64> {
-    let time = clock.monotonic().ok()?;
-    Some(
-        time.as_secs()
+/// Milliseconds of the clock; 0 if it can't be read, and then nothing is drawn.
+fn now<C: Clock>(clock: &C) -> u64 {
+    match clock.monotonic() {
+        Ok(time) => time
+            .as_secs()
             .saturating_mul(1000)
             .saturating_add(time.subsec_millis() as u64),
-    )
-}
-
-fn word(phase: Phase) -> &'static str {
-    match phase {
-        Phase::Mapping => "mapping",
-        Phase::Reducing => "reducing",
-        Phase::Judging => "judging",
+        Err(_) => 0,
     }
 }
 
-/// How many hundredths are done.
-fn share(done: u64, all: u64) -> u64 {
-    done.min(all).saturating_mul(100) / all.max(1)
-}
-
+/// The line; `share` is how many hundredths are done.
 fn line(alloc: Global, phase: Phase, share: u64, lost: u64) -> Result<String, AllocError> {
-    let word = word(phase);
+    let word = match phase {
+        Phase::Mapping => "mapping",
+        Phase::Reducing => "reducing",
+        Phase::Judging => "judging",
+    };
     match lost {
         0 => format!(in alloc; "{WIPE}mapred: {word} {share} %"),
         1 => format!(in alloc; "{WIPE}mapred: {word} {share} %, 1 worker lost"),
@@ -64,12 +58,12 @@ fn line(alloc: Global, phase: Phase, share: u64, lost: u64) -> Result<String, Al
 impl<C: Clock> ProgressLine<C> {
     /// Nothing is drawn yet.
     pub fn new(clock: C, alloc: Global, err: Stderr) -> ProgressLine<C> {
-        let next = now(&clock).unwrap_or(u64::MAX);
+        let next = now(&clock).saturating_add(PAUSE);
         ProgressLine {
             clock,
             alloc,
             err,
-            next: AtomicU64::new(next.saturating_add(PAUSE)),
+            next: AtomicU64::new(next),
             lost: AtomicU64::new(0),
             judging: AtomicBool::new(false),
             stands: AtomicBool::new(false),
@@ -78,9 +72,7 @@ impl<C: Clock> ProgressLine<C> {
 
     /// Whether this call may draw; no other may until the pause is over.
     fn is_due(&self) -> bool {
-        let Some(now) = now(&self.clock) else {
-            return false;
-        };
+        let now = now(&self.clock);
         let next = self.next.load(Ordering::SeqCst);
         let after = now.saturating_add(PAUSE);
         next <= now
@@ -109,7 +101,8 @@ impl<C: Clock + Sync> Progress for ProgressLine<C> {
             return;
         }
         let lost = self.lost.load(Ordering::SeqCst);
-        if let Ok(text) = line(self.alloc, phase, share(done, all), lost) {
+        let share = done.min(all).saturating_mul(100) / all.max(1);
+        if let Ok(text) = line(self.alloc, phase, share, lost) {
             self.stands.store(true, Ordering::SeqCst);
             let mut err = self.err;
             let _ = err.write_all(text.as_bytes());
@@ -128,15 +121,10 @@ const MOST_PARTS: usize = 1024;
 struct NoteList<'a, L: Inspect> {
     look: &'a L,
     alloc: Global,
-    is_fresh: bool,
     lines: Vec<String>,
 }
 
 impl<'a, L: Inspect> NoteList<'a, L> {
-    fn push(&mut self, line: String) -> Result<(), AllocError> {
-        self.lines.push(line).map_err(AllocError::from)
-    }
-
     fn is_there(&self, name: &str) -> bool {
         !matches!(self.look.path_kind(name), PathKind::Nothing)
     }
@@ -150,100 +138,71 @@ impl<'a, L: Inspect> NoteList<'a, L> {
             )?,
             _ => format!(in alloc; "note: {dir} is no directory")?,
         };
-        self.push(line)
+        Ok(self.lines.push(line)?)
     }
 
-    /// If the directory has a result, by its first part or by the file that is written last.
-    fn note_result(&mut self, dir: &str, last: &str) -> Result<(), AllocError> {
+    /// The directory of a result, and whether it has one, by its first part or by the file that is
+    /// written last.
+    fn note_made(&mut self, dir: &str, last: String) -> Result<(), AllocError> {
         let alloc = self.alloc;
+        self.note_directory(dir)?;
         let part = part_name(alloc, dir, 0)?;
-        if self.is_there(last) || self.is_there(part.as_str()) {
-            let line = format!(in alloc;
+        if self.is_there(last.as_str()) || self.is_there(part.as_str()) {
+            self.lines.push(format!(in alloc;
                 "note: {dir} has a result already, which will be written over"
-            )?;
-            self.push(line)?;
+            )?)?;
         }
         Ok(())
     }
 
-    /// The first part in the directory from number `parts` on.
-    fn note_others(&mut self, dir: &str, parts: usize) -> Result<(), AllocError> {
+    /// The first part in the result's directory that is none of the result's.
+    fn note_others(&mut self, options: &Options<'_>) -> Result<(), AllocError> {
         let alloc = self.alloc;
-        for part in parts..MOST_PARTS {
-            let name = part_name(alloc, dir, part)?;
+        let Options { out, parts, .. } = options;
+        for part in *parts as usize..MOST_PARTS {
+            let name = part_name(alloc, out, part)?;
             if self.is_there(name.as_str()) {
                 let line = format!(in alloc;
-                    "note: {dir} has part-{part:05} too, which is none of this result (--parts {parts}) and stays"
+                    "note: {out} has part-{part:05} too, which is none of this result (--parts {parts}) and stays"
                 )?;
-                return self.push(line);
+                return Ok(self.lines.push(line)?);
             }
         }
         Ok(())
     }
-
-    fn note_made(&mut self, options: &Options<'_>) -> Result<(), AllocError> {
-        if self.is_fresh {
-            return Ok(());
-        }
-        let certificate = certificate_name(self.alloc, options.out)?;
-        self.note_directory(options.out)?;
-        self.note_result(options.out, certificate.as_str())?;
-        self.note_others(options.out, options.parts as usize)
-    }
-
-    fn note_all(&mut self, asked: &Subcommand<'_>) -> Result<(), AllocError> {
-        match asked {
-            Subcommand::Seq(asked) => self.note_made(&asked.options),
-            Subcommand::Run(asked) => {
-                self.note_made(&asked.options)?;
-                match asked.scratch {
-                    Some(dir) => self.note_directory(dir),
-                    None => Ok(()),
-                }
-            }
-            Subcommand::Check(asked) => {
-                let Options { out, parts, .. } = &asked.options;
-                self.note_others(out, *parts as usize)
-            }
-            Subcommand::Merge(_) if self.is_fresh => Ok(()),
-            // Only the verdicts say how many parts a merge writes, so others can't be noted.
-            Subcommand::Merge(asked) => {
-                let verdict = verdict_name(self.alloc, asked.out)?;
-                self.note_directory(asked.out)?;
-                self.note_result(asked.out, verdict.as_str())
-            }
-            Subcommand::Verify(_) | Subcommand::Explain(_) | Subcommand::Picture(_) => Ok(()),
-        }
-    }
-}
-
-/// Whether there can be so many parts. If not, the command will fail.
-fn asks_for_parts(asked: &Subcommand<'_>) -> bool {
-    let options = match asked {
-        Subcommand::Seq(asked) => &asked.options,
-        Subcommand::Run(asked) => &asked.options,
-        Subcommand::Check(asked) => &asked.options,
-        _ => return true,
-    };
-    0 < options.parts && options.parts as usize <= MOST_PARTS
 }
 
 /// Lines on the directories of the result, unless it must be fresh, and of regions, without line
-/// ends.
+/// ends; none if there can't be so many parts, since then the command will fail.
 pub fn notes<L: Inspect>(
     look: &L,
     alloc: Global,
     asked: &Subcommand<'_>,
     is_fresh: bool,
 ) -> Result<Vec<String>, AllocError> {
-    let mut notes = NoteList {
-        look,
-        alloc,
-        is_fresh,
-        lines: Vec::new(alloc),
-    };
-    if asks_for_parts(asked) {
-        notes.note_all(asked)?;
+    let lines = Vec::new(alloc);
+    let mut notes = NoteList { look, alloc, lines };
+    let (_, options) = letter_and_options(asked);
+    if !(1..=MOST_PARTS).contains(&options.map_or(1, |options| options.parts as usize)) {
+        return Ok(notes.lines);
+    }
+    match asked {
+        Subcommand::Check(asked) => notes.note_others(&asked.options)?,
+        // Only the verdicts say how many parts a merge writes, so others can't be noted.
+        Subcommand::Merge(asked) if !is_fresh => {
+            notes.note_made(asked.out, verdict_name(alloc, asked.out)?)?;
+        }
+        Subcommand::Seq(SeqOptions { options, .. }) | Subcommand::Run(RunOptions { options, .. })
+            if !is_fresh => {
+            notes.note_made(options.out, certificate_name(alloc, options.out)?)?;
+            notes.note_others(options)?;
+        }
+        _ => {}
+    }
+    if let Subcommand::Run(asked) = asked
+        && let Some(dir) = asked.scratch
+    {
+        notes.note_directory(dir)?;
     }
     Ok(notes.lines)
 }
