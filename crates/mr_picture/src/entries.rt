@@ -1,8 +1,8 @@
 //! An event of a history with the master's answer, and its line.
 ghost use Rattle.std.specs.Prelude.{◌≡◌, ◌++◌, OnOk, IfOk, string_bytes};
 ghost use Rattle.mr_picture.specs.Answers.{reply_of};
-ghost use Rattle.mr_picture.specs.HistoryLines.{end_text, entry_line, event_text, fault_name};
-ghost use Rattle.mr_picture.specs.HistoryLines.{map_text, reply_text, shape_line, without_text};
+ghost use Rattle.mr_picture.specs.HistoryLines.{entry_line, event_text, fault_name, reply_text};
+ghost use Rattle.mr_picture.specs.HistoryLines.{shape_line, without_text};
 
 use mr_core::{End, Event, JobFault, Reply, Shape};
 use std::alloc::{AllocError, Global};
@@ -69,19 +69,6 @@ pub fn fault_name(fault: JobFault) -> &'static str
     }
 }
 
-fn add_end(text: &mut String, end: End) -> Result<(), AllocError>
-    ensures { OnOk result (string_bytes text.new ≡ string_bytes text.old ++ end_text end) }
-{
-    match end {
-        End::Done => write!(text, "done"),
-        End::Dismissed => write!(text, "dismissed"),
-        End::Failed(fault) => {
-            let name = fault_name(fault);
-            write!(text, "failed {name}")
-        }
-    }
-}
-
 fn add_without(text: &mut String, skips: &[u32]) -> Result<(), AllocError>
     ensures { OnOk result
         (string_bytes text.new ≡ string_bytes text.old ++ without_text skips.now) }
@@ -96,28 +83,25 @@ fn add_without(text: &mut String, skips: &[u32]) -> Result<(), AllocError>
     Ok(())
 }
 
-fn add_map(text: &mut String, attempt: u32, split: u32, skips: &[u32]) -> Result<(), AllocError>
-    ensures { OnOk result
-        (string_bytes text.new ≡ string_bytes text.old ++ map_text attempt split skips.now) }
-{
-    write!(text, "map attempt {attempt} split {split}")?;
-    add_without(text, skips)
-}
-
 pub(crate) fn add_reply(text: &mut String, answer: Answer, skips: &[u32]) -> Result<(), AllocError>
     ensures { OnOk result
         (string_bytes text.new ≡ string_bytes text.old ++ reply_text (reply_of answer skips.now)) }
 {
     match answer {
-        Answer::Map { attempt, split } => add_map(text, attempt, split, skips),
+        Answer::Map { attempt, split } => {
+            write!(text, "map attempt {attempt} split {split}")?;
+            add_without(text, skips)
+        }
         Answer::Reduce { attempt, partition } => write!(
             text,
             "reduce attempt {attempt} partition {partition}"
         ),
         Answer::Wait => write!(text, "wait"),
-        Answer::Stop(end) => {
-            write!(text, "stop ")?;
-            add_end(text, end)
+        Answer::Stop(End::Done) => write!(text, "stop done"),
+        Answer::Stop(End::Dismissed) => write!(text, "stop dismissed"),
+        Answer::Stop(End::Failed(fault)) => {
+            let name = fault_name(fault);
+            write!(text, "stop failed {name}")
         }
         Answer::Region { output } => write!(text, "output {output}"),
         Answer::Gone => write!(text, "gone"),

@@ -4,8 +4,8 @@ ghost use Rattle.std.specs.Prelude.{length};
 ghost use Rattle.std.specs.List.{AllByRecursion};
 ghost use Rattle.mr_picture.specs.Histories.{AreSmallIn, IsSmall};
 ghost use Rattle.mr_picture.specs.Parsing.{answer_of, answer_with, end_of, event_by, event_of};
-ghost use Rattle.mr_picture.specs.Parsing.{event_with, next_number, number_behind, parted};
-ghost use Rattle.mr_picture.specs.Parsing.{AreSmallAnswered, parts_of, shape_in, shape_of, spaced};
+ghost use Rattle.mr_picture.specs.Parsing.{next_number, number_behind, parted};
+ghost use Rattle.mr_picture.specs.Parsing.{AreSmallAnswered, parts_of, shape_of, spaced};
 
 use crate::entries::Answer;
 use mr_bytes::cut;
@@ -75,11 +75,12 @@ fn event_by(word: &[u8], attempt: u32, number: u32) -> Option<Event>
     None
 }
 
-#[tactic(auto, unfolding(crate::specs::Parsing::event_with))]
-fn event_with(word: &[u8], rest: &[u8]) -> Option<Event>
-    ensures value { result ≡ event_with word.now rest.now }
+#[tactic(auto, unfolding(crate::specs::Parsing::event_of, crate::specs::Parsing::event_with))]
+fn event_of(text: &[u8]) -> Option<Event>
+    ensures value { result ≡ event_of text.now }
     ensures small { IfSome result AreSmallIn }
 {
+    let (word, rest) = parted(text);
     if word == b"ask".as_slice() {
         return Some(Event::Ask(number_of(rest)?));
     }
@@ -89,15 +90,6 @@ fn event_with(word: &[u8], rest: &[u8]) -> Option<Event>
     let (attempt, rest) = number_behind(rest)?;
     let (number, _) = number_behind(rest)?;
     event_by(word, attempt, number)
-}
-
-#[tactic(auto, unfolding(crate::specs::Parsing::event_of))]
-fn event_of(text: &[u8]) -> Option<Event>
-    ensures value { result ≡ event_of text.now }
-    ensures small { IfSome result AreSmallIn }
-{
-    let (word, rest) = parted(text);
-    event_with(word, rest)
 }
 
 #[tactic(auto, unfolding(crate::specs::Parsing::end_of))]
@@ -202,10 +194,12 @@ pub(crate) fn parts_of(text: &[u8]) -> Option<(Event, Answer, &[u8])>
     Some((event, answer, left_out))
 }
 
-#[tactic(auto, unfolding(crate::specs::Parsing::shape_in))]
-fn shape_in(line: &[u8]) -> Option<Shape>
-    ensures { result ≡ shape_in line.now }
+/// The shape that the first line may have.
+#[tactic(auto, unfolding(crate::specs::Parsing::shape_of, crate::specs::Parsing::shape_in))]
+pub(crate) fn shape_of(text: &[u8]) -> Option<Shape>
+    ensures { result ≡ shape_of text.now }
 {
+    let (line, _) = cut(text, b'\n')?;
     let (_, rest) = parted(line);
     let (_, rest) = parted(rest);
     let (maps, rest) = number_behind(rest)?;
@@ -219,13 +213,4 @@ fn shape_in(line: &[u8]) -> Option<Shape>
         workers,
         limits: Limits { attempts, skips },
     })
-}
-
-/// The shape that the first line may have.
-#[tactic(auto, unfolding(crate::specs::Parsing::shape_of))]
-pub(crate) fn shape_of(text: &[u8]) -> Option<Shape>
-    ensures { result ≡ shape_of text.now }
-{
-    let (line, _) = cut(text, b'\n')?;
-    shape_in(line)
 }

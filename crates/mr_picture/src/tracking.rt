@@ -97,27 +97,23 @@ impl Track {
     }
 
     fn live(&self, attempt: Option<u32>) -> Option<Attempt> {
-        match item_at(&self.attempts, attempt?) {
-            Some(own) if own.end.is_none() => Some(own),
-            _ => None,
-        }
+        item_at(&self.attempts, attempt?).filter(|own| own.end.is_none())
     }
 
     fn worker_of(&self, event: Event) -> u32 {
         match event {
             Event::Ask(worker) | Event::Lose(worker) => worker,
-            _ => match item_at(&self.attempts, attempt_of(event).unwrap_or(0)) {
-                Some(own) => own.worker,
-                None => 0,
-            },
+            _ => item_at(&self.attempts, attempt_of(event).unwrap_or(0)).map_or(
+                0,
+                |own| own.worker,
+            ),
         }
     }
 
     fn is_worked_at(&self, task: Task) -> bool {
         for attempt in self.last.as_slice() {
-            match self.live(*attempt) {
-                Some(own) if own.task == task => return true,
-                _ => {}
+            if self.live(*attempt).is_some_and(|own| own.task == task) {
+                return true;
             }
         }
         false
@@ -178,16 +174,16 @@ impl Track {
 
     /// The attempt is done with its task, and its worker has a map's output.
     fn complete(&mut self, attempt: u32, output: u64) {
-        match self.live(Some(attempt)) {
-            Some(own) => match own.task {
-                Task::Map(split) => {
-                    put(&mut self.holders, split, Some(own.worker));
-                    put(&mut self.outputs, split, output);
-                    put(&mut self.left_out, split, own.left_out);
-                }
-                Task::Reduce(partition) => put(&mut self.committed, partition, true),
-            },
-            None => {}
+        let Some(own) = self.live(Some(attempt)) else {
+            return;
+        };
+        match own.task {
+            Task::Map(split) => {
+                put(&mut self.holders, split, Some(own.worker));
+                put(&mut self.outputs, split, output);
+                put(&mut self.left_out, split, own.left_out);
+            }
+            Task::Reduce(partition) => put(&mut self.committed, partition, true),
         }
     }
 
@@ -200,10 +196,9 @@ impl Track {
 
     /// A region is damaged: its split's output goes, if the attempt fetched that one.
     fn damage(&mut self, entries: &[Entry], attempt: u32, split: u32) {
-        let begin = match self.live(Some(attempt)) {
-            Some(own) => own.begin,
-            None => entries.len(),
-        };
+        let begin = self
+            .live(Some(attempt))
+            .map_or(entries.len(), |own| own.begin);
         let fetch = Event::Fetch(attempt, split);
         let output = item_at(&self.outputs, split).unwrap_or(0);
         for entry in entries.get(begin..).unwrap_or(&[]) {
@@ -274,8 +269,7 @@ impl Track {
 fn told_end(entries: &[Entry]) -> Option<End> {
     for entry in entries {
         match entry.answer {
-            Answer::Stop(End::Done) => return Some(End::Done),
-            Answer::Stop(End::Failed(fault)) => return Some(End::Failed(fault)),
+            Answer::Stop(end) if end != End::Dismissed => return Some(end),
             _ => {}
         }
     }
