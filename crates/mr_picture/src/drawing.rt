@@ -59,25 +59,16 @@ pub(crate) fn sum_of(counts: &[usize]) -> usize {
     sum
 }
 
-/// Adds the counts by kind. Returns whether some are to be noted.
-fn add_counts(page: &mut String, counts: &[usize]) -> Result<bool, AllocError> {
-    let mut noted = false;
-    for ((_, name, notable), count) in KINDS.iter().zip(counts) {
+/// Adds the counts by kind. Returns the letters of those to be noted.
+fn add_counts(alloc: Global, page: &mut String, counts: &[usize]) -> Result<String, AllocError> {
+    let mut letters = String::new(alloc);
+    for ((letter, name, notable), count) in KINDS.iter().zip(counts) {
         if *count > 0 {
             write!(page, ", {count} {name}")?;
-            noted = noted || *notable;
+            letters.push_str(if *notable { letter } else { "" })?;
         }
     }
-    Ok(noted)
-}
-
-fn add_letters(page: &mut String, counts: &[usize]) -> Result<(), AllocError> {
-    for ((letter, _, notable), count) in KINDS.iter().zip(counts) {
-        if *notable && *count > 0 {
-            page.push_str(letter)?;
-        }
-    }
-    Ok(())
+    Ok(letters)
 }
 
 impl Drawing<'_> {
@@ -197,7 +188,13 @@ impl Drawing<'_> {
     }
 
     /// Adds a cell, of a worker's events of a column, if there are some.
-    fn add_cell(&self, page: &mut String, cell: usize, counts: &[usize]) -> Result<(), AllocError> {
+    fn add_cell(
+        &self,
+        alloc: Global,
+        page: &mut String,
+        cell: usize,
+        counts: &[usize],
+    ) -> Result<(), AllocError> {
         let workers = (self.history.shape.workers as usize).max(1);
         let worker = (cell % workers) as u32;
         let first = (cell / workers).saturating_mul(self.each);
@@ -209,11 +206,8 @@ impl Drawing<'_> {
         self.begin_mark(page, first, worker)?;
         write!(page, "events {first} to {last}, worker {worker}: ")?;
         write!(page, "{sum} events")?;
-        let class = if add_counts(page, counts)? {
-            "bad"
-        } else {
-            "m"
-        };
+        let letters = add_counts(alloc, page, counts)?;
+        let class = if letters.is_empty() { "m" } else { "bad" };
         let share = sum.saturating_mul(workers).saturating_mul(12) / self.each.max(1);
         let height = share.max(10).min(24) + 2;
         let top = 38usize.saturating_sub(height);
@@ -221,7 +215,7 @@ impl Drawing<'_> {
         write!(page, "width=\"24\" height=\"{height}\"/>")?;
         write!(page, "<text y=\"{top}\" dy=\"-2\">{sum}</text>")?;
         page.push_str("<text y=\"38\">")?;
-        add_letters(page, counts)?;
+        page.push_str(letters.as_str())?;
         page.push_str("</text></g>\n")
     }
 
@@ -270,7 +264,7 @@ impl Drawing<'_> {
         if self.each > 1 {
             let counts = self.count(alloc, workers as usize)?;
             for (cell, counts) in counts.as_slice().chunks(KINDS.len()).enumerate() {
-                self.add_cell(page, cell, counts)?;
+                self.add_cell(alloc, page, cell, counts)?;
             }
         } else {
             for (at, entry) in self.history.entries.as_slice().iter().enumerate() {

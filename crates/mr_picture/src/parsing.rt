@@ -3,7 +3,7 @@ ghost use Rattle.std.specs.Prelude.{◌≡◌, ◌<◌, IfOk, IfSome, List, Matc
 ghost use Rattle.std.specs.Prelude.{length};
 ghost use Rattle.std.specs.List.{AllByRecursion};
 ghost use Rattle.mr_picture.specs.Histories.{AreSmallIn, IsSmall};
-ghost use Rattle.mr_picture.specs.Parsing.{answer_of, answer_with, end_of, event_by, event_of};
+ghost use Rattle.mr_picture.specs.Parsing.{answer_of, end_of, event_by, event_of};
 ghost use Rattle.mr_picture.specs.Parsing.{next_number, number_behind, parted};
 ghost use Rattle.mr_picture.specs.Parsing.{AreSmallAnswered, parts_of, shape_of, spaced};
 
@@ -114,12 +114,14 @@ fn end_of(text: &[u8]) -> Option<End>
     None
 }
 
-#[tactic(auto, unfolding(crate::specs::Parsing::answer_with))]
-fn answer_with<'a>(word: &[u8], rest: &'a [u8]) -> Option<(Answer, &'a [u8])>
-    ensures value { MatchOption result (answer_with word.now rest.entry.now ≡ None)
-        (λ r. answer_with word.now rest.entry.now ≡ Some (r.0, r.1.now)) }
+/// An answer, and the text of the records that it leaves out.
+#[tactic(auto, unfolding(crate::specs::Parsing::answer_of, crate::specs::Parsing::answer_with))]
+fn answer_of(text: &[u8]) -> Option<(Answer, &[u8])>
+    ensures value { MatchOption result (answer_of text.entry.now ≡ None)
+        (λ r. answer_of text.entry.now ≡ Some (r.0, r.1.now)) }
     ensures small { IfSome result (λ r. AreSmallAnswered r.0) }
 {
+    let (word, rest) = parted(text);
     if word == b"map".as_slice() {
         let (attempt, rest) = number_behind(rest)?;
         let (split, rest) = number_behind(rest)?;
@@ -150,17 +152,6 @@ fn answer_with<'a>(word: &[u8], rest: &'a [u8]) -> Option<(Answer, &'a [u8])>
         return Some((Answer::Ignored, b""));
     }
     None
-}
-
-/// An answer, and the text of the records that it leaves out.
-#[tactic(auto, unfolding(crate::specs::Parsing::answer_of))]
-fn answer_of(text: &[u8]) -> Option<(Answer, &[u8])>
-    ensures value { MatchOption result (answer_of text.entry.now ≡ None)
-        (λ r. answer_of text.entry.now ≡ Some (r.0, r.1.now)) }
-    ensures small { IfSome result (λ r. AreSmallAnswered r.0) }
-{
-    let (word, rest) = parted(text);
-    answer_with(word, rest)
 }
 
 /// The numbers at the front, with single spaces between them.

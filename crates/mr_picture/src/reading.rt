@@ -131,17 +131,6 @@ fn length_of_front(text: &[u8], line: &[u8]) -> Option<usize>
     }
 }
 
-/// The length of the entry's line, if the text begins with it.
-fn length_of_line(alloc: Global, text: &[u8], entry: &Entry) -> Result<Option<usize>, AllocError>
-    ensures { IfOk result (λ o. MatchOption o
-        ((more : List ℕ) → text.now ≡ entry_line entry.now ++ more → ⊥)
-        (λ n. IsFront n (entry_line entry.now) text.now)) }
-{
-    let mut line = String::new(alloc);
-    add_entry(&mut line, entry)?;
-    Ok(length_of_front(text, line.as_bytes()))
-}
-
 /// The entry at the front of the text, if it is allowed there, and the length of its line.
 fn next_entry(
     alloc: Global,
@@ -160,7 +149,9 @@ fn next_entry(
     if !fits(history.shape, at, history.tasks.as_slice(), &entry) {
         return Ok(None);
     }
-    match length_of_line(alloc, text, &entry)? {
+    let mut line = String::new(alloc);
+    add_entry(&mut line, &entry)?;
+    match length_of_front(text, line.as_bytes()) {
         Some(length) => Ok(Some((entry, length))),
         None => Ok(None),
     }
