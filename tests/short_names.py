@@ -172,7 +172,7 @@ def byte_by_byte(harness):
 def written(harness):
     """`seq --cert 2` writes the parts of `seq` and the certificate of the plain writer, and `check` says yes to it."""
     rnd, seen = seeded("seq in version 2"), set()
-    for turn in range(60):
+    for turn in range(120):
         request, files, skips = random_job(rnd)
         names = {f"f{i}": data for i, data in enumerate(files)}
         outputs, certificate, pairs = produced(request, files, skips)
