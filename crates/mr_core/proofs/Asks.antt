@@ -12,7 +12,7 @@ use Rattle.mr_core.specs.declared.event.Shape.{Shape}
 use Rattle.mr_core.specs.declared.entries.Split.{Split}
 use Rattle.mr_core.specs.Master.{State, Attempt, may_give, given, asked, issue, same_list, tasks, is_active, is_task, has_live, may_newly, may_backup, opening}
 use Rattle.mr_core.specs.Core.{InLimits, IsReached}
-use Rattle.std.specs.Prelude.{Result, Ok, Err, IfOk, MatchOption}
+use Rattle.std.specs.Prelude.{MatchOption}
 use Rattle.mr_core.specs.Queries.{is_lone}
 use Rattle.mr_core.specs.Index.{IsGoing, IsBelow, IsCurrent}
 use Rattle.mr_core.proofs.Indexed.{none_at}

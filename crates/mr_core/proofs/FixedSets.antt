@@ -1,5 +1,5 @@
 -- The left-out records of a split whose set is fixed never change.
-use Rattle.std.proofs.Common.{◌≡◌, ℕ, Option, Some, None, List, [], ◌∷◌, slice_get, refl, ap, sym, ◌∙◌, subst, inl, inr, Bool, true, false, not, ◌||◌, ◌&&◌, is_none, cond}
+use Rattle.std.proofs.Common.{◌≡◌, ℕ, Option, Some, None, List, [], ◌∷◌, slice_get, refl, ap, sym, ◌∙◌, subst, inl, inr, Bool, true, not, ◌||◌, is_none}
 use Rattle.std.specs.Cmp.Lexicographic.{bytes_decides}
 use Rattle.std.proofs.lemmas.Bool.{and_parts, or_cases, not-true, true≢false, cases_eq}
 use Rattle.std.proofs.lemmas.Option.{some_pair_parts}
@@ -7,7 +7,7 @@ use Rattle.mr_core.specs.declared.event.Event.{Event}
 use Rattle.mr_core.specs.declared.event.Reply.{Reply}
 use Rattle.mr_core.specs.declared.event.Shape.{Shape}
 use Rattle.mr_core.specs.declared.entries.Split.{Split}
-use Rattle.mr_core.specs.Master.{State, Attempt, Step, Run, update_at, complete, finish, leave_out, note_failure, lose, damage, gone_with, without_output, takes, may_leave_out, with_number, same_list}
+use Rattle.mr_core.specs.Master.{State, Attempt, Step, Run, update_at, complete, finish, leave_out, note_failure, gone_with, without_output, takes, may_leave_out, with_number, same_list}
 use Rattle.mr_core.specs.Laws.{IsFixedTo}
 use Rattle.mr_core.proofs.StepCases.{Rule, step_holds}
 use Rattle.mr_core.proofs.Places.{map-update, map-update_same, map-map_same, get-update_here, get-update_other, get-map_from}

@@ -6,7 +6,6 @@ use Rattle.std.proofs.lemmas.List.Sums.{sum_by-cons}
 use Rattle.std.proofs.lemmas.Bool.Decides.{nat_tests}
 use Rattle.mr_core.specs.declared.entries.Split.{Split}
 use Rattle.mr_core.specs.Master.{update_at, is_numbered, without_output}
-use Rattle.mr_core.specs.Index.{vacancy}
 use Rattle.mr_core.proofs.Places.{sum-update}
 
 -- all are so where none is counted that isn't
@@ -67,12 +66,6 @@ split_emptied o zero (x ∷ xs) d h =
         by false = refl
 split_emptied o (suc i) (x ∷ xs) d h =
     omega (arith, split_emptied o i xs d (omega arith), sum_by-cons (λ (sp : Split). cond (is_none sp.output) 1 0) x xs, sum_by-cons (λ (sp : Split). cond (is_none sp.output) 1 0) x (update_at (without_output o) i xs))
-
-pub output_filled : (o i : ℕ) (xs : List (Option ℕ)) → count_by is_none (update_at (λ x. Some o) i xs) + vacancy (slice_get xs i) ≡ count_by is_none xs
-output_filled o i [] = refl
-output_filled o zero (None ∷ xs) = omega (arith, sum_by-cons (λ (o : Option ℕ). cond (is_none o) 1 0) None xs, sum_by-cons (λ (o : Option ℕ). cond (is_none o) 1 0) (Some o) xs)
-output_filled o zero (Some x ∷ xs) = omega (arith, sum_by-cons (λ (o : Option ℕ). cond (is_none o) 1 0) (Some x) xs, sum_by-cons (λ (o : Option ℕ). cond (is_none o) 1 0) (Some o) xs)
-output_filled o (suc i) (x ∷ xs) = omega (arith, output_filled o i xs, sum_by-cons (λ (o : Option ℕ). cond (is_none o) 1 0) x xs, sum_by-cons (λ (o : Option ℕ). cond (is_none o) 1 0) x (update_at (λ x. Some o) i xs))
 
 -- one element put in the place of another that is counted alike
 pub count_set : (xs : List Split) (i : ℕ) (d y : Split) → i < length xs → y.output ≡ (slice_index_or xs i d).output → count_by (λ (sp : Split). is_none sp.output) (slice_set xs i y) ≡ count_by (λ (sp : Split). is_none sp.output) xs

@@ -9,7 +9,7 @@ use Rattle.mr_core.specs.declared.event.Event.TheVariants.{Ask, Fetch, MapDone, 
 use Rattle.mr_core.specs.declared.event.Reply.{Reply}
 use Rattle.mr_core.specs.declared.event.Reply.TheVariants.{Map, Reduce, Wait, Stop, Region, Gone, Accepted, Ignored}
 use Rattle.mr_core.specs.declared.event.Shape.{Shape}
-use Rattle.mr_core.specs.Master.{State, Outcome, Step, outcome, next_going, next_by, reply_eq, end_eq, reply_ended, same_list, settled, asked, then_settled}
+use Rattle.mr_core.specs.Master.{State, Outcome, Step, outcome, next_going, next_by, reply_eq, end_eq, same_list, settled, asked, then_settled}
 use Rattle.mr_core.specs.Core.{IsReached}
 use Rattle.mr_core.proofs.RunLaws.{run_push}
 

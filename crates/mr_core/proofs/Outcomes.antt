@@ -1,14 +1,13 @@
 -- What an event leads to, by its cases.
-use Rattle.std.proofs.Common.{◌≡◌, ℕ, Some, None, List, slice_get, refl, ap, sym, ◌∙◌, subst, Bool, true, false, cond, not, ◌&&◌, nat_lt, is_some}
-use Rattle.std.specs.List.{list_all}
+use Rattle.std.proofs.Common.{◌≡◌, ℕ, Some, None, List, slice_get, refl, ap, sym, ◌∙◌, Bool, true, false, cond, ◌&&◌, nat_lt}
 use Rattle.mr_core.specs.declared.event.Task.{Task}
 use Rattle.mr_core.specs.declared.event.Shape.{Shape}
 use Rattle.mr_core.specs.declared.entries.Split.{Split}
-use Rattle.mr_core.specs.Master.{State, Attempt, Outcome, live_attempt, on_live, fetch_by, fetched_from, map_done_by, map_failed_by, reduce_done_by, outcome, replies, finish, fetch, complete, commit, takes, is_complete, leave_out, note_failure, may_leave_out, failed_before, left_out, update_at, is_open, issued, maps_complete, damage, latest_in, damaged_from, damaged_by}
+use Rattle.mr_core.specs.Master.{State, Attempt, Outcome, live_attempt, on_live, fetch_by, fetched_from, map_failed_by, outcome, replies, finish, fetch, complete, leave_out, note_failure, may_leave_out, failed_before, left_out, update_at}
 use Rattle.mr_core.specs.Queries.{IsLive}
 use Rattle.mr_core.specs.declared.event.Task.TheVariants.{Map as MapTask, Reduce as ReduceTask}
-use Rattle.mr_core.specs.declared.event.Event.TheVariants.{Fetch, MapDone, MapFailed, ReduceDone, Damaged}
-use Rattle.mr_core.specs.declared.event.Reply.TheVariants.{Region, Gone, Accepted, Ignored}
+use Rattle.mr_core.specs.declared.event.Event.TheVariants.{Fetch, MapFailed}
+use Rattle.mr_core.specs.declared.event.Reply.TheVariants.{Region, Accepted, Ignored}
 
 module _ (st : State) (a : ℕ) where
   dead : (f : Attempt → Outcome) → live_attempt st a ≡ None → on_live st (live_attempt st a) f ≡ replies Ignored st
@@ -18,67 +17,9 @@ module _ (st : State) (a : ℕ) where
   alive f at t l e = ap (λ x. on_live st x (λ at. f at at.task)) l ∙ ap (f at) e
 
   -- ---- fetches
-  pub fetch_dead : (sh : Shape) (m : ℕ) → live_attempt st a ≡ None → outcome sh st (Fetch a m) ≡ replies Ignored st
-  fetch_dead sh m l = dead _ l
-
-  pub fetch_of_map : (sh : Shape) (m s : ℕ) → IsLive st a (MapTask s) → outcome sh st (Fetch a m) ≡ replies Ignored st
-  fetch_of_map sh m s l = alive (λ at t. fetch_by st a m t (slice_get st.splits m)) l.0 (MapTask s) l.1 l.2
-
-  pub fetch_none : (sh : Shape) (m p : ℕ) → IsLive st a (ReduceTask p) → slice_get st.splits m ≡ None → outcome sh st (Fetch a m) ≡ replies Ignored st
-  fetch_none sh m p l s = alive (λ at t. fetch_by st a m t (slice_get st.splits m)) l.0 (ReduceTask p) l.1 l.2 ∙ ap (fetch_by st a m (ReduceTask p)) s
-
-  pub fetch_gone : (sh : Shape) (m p : ℕ) (sp : Split) (new : State) → IsLive st a (ReduceTask p) → slice_get st.splits m ≡ Some sp → sp.output ≡ None → new ≡ finish a st → outcome sh st (Fetch a m) ≡ replies Gone new
-  fetch_gone sh m p sp new l s o n =
-      alive (λ at t. fetch_by st a m t (slice_get st.splits m)) l.0 (ReduceTask p) l.1 l.2 ∙ ap (fetch_by st a m (ReduceTask p)) s ∙ ap (fetched_from st a m) o ∙ ap (replies Gone) (sym n)
-
   pub fetch_region : (sh : Shape) (m p : ℕ) (sp : Split) (o : ℕ × ℕ) (new : State) → IsLive st a (ReduceTask p) → slice_get st.splits m ≡ Some sp → sp.output ≡ Some o → new ≡ fetch a m (o.0) st → outcome sh st (Fetch a m) ≡ replies (Region (o.0)) new
   fetch_region sh m p sp o new l s e n =
       alive (λ at t. fetch_by st a m t (slice_get st.splits m)) l.0 (ReduceTask p) l.1 l.2 ∙ ap (fetch_by st a m (ReduceTask p)) s ∙ ap (fetched_from st a m) e ∙ ap (replies (Region (o.0))) (sym n)
-
-  -- ---- completions of reduces
-  pub reduce_dead : (sh : Shape) (o : ℕ) → live_attempt st a ≡ None → outcome sh st (ReduceDone a o) ≡ replies Ignored st
-  reduce_dead sh o l = dead _ l
-
-  pub reduce_of_map : (sh : Shape) (o s : ℕ) → IsLive st a (MapTask s) → outcome sh st (ReduceDone a o) ≡ replies Ignored st
-  reduce_of_map sh o s l = alive (λ at t. reduce_done_by st a o at t) l.0 (MapTask s) l.1 l.2
-
-  pub reduce_late : (sh : Shape) (o p : ℕ) (at : Attempt) (new : State) → live_attempt st a ≡ Some at → at.task ≡ ReduceTask p → (not (is_complete st (ReduceTask p)) && list_all is_some at.fetched) ≡ false → new ≡ finish a st → outcome sh st (ReduceDone a o) ≡ replies Ignored new
-  reduce_late sh o p at new l t b n =
-      alive (λ at t. reduce_done_by st a o at t) at (ReduceTask p) l t ∙ ap (λ c. cond c (replies Accepted (commit p o (finish a st))) (replies Ignored (finish a st))) b ∙ ap (replies Ignored) (sym n)
-
-  pub reduce_commits : (sh : Shape) (o p : ℕ) (at : Attempt) (new : State) → live_attempt st a ≡ Some at → at.task ≡ ReduceTask p → (not (is_complete st (ReduceTask p)) && list_all is_some at.fetched) ≡ true → new ≡ commit p o (finish a st) → outcome sh st (ReduceDone a o) ≡ replies Accepted new
-  reduce_commits sh o p at new l t b n =
-      alive (λ at t. reduce_done_by st a o at t) at (ReduceTask p) l t ∙ ap (λ c. cond c (replies Accepted (commit p o (finish a st))) (replies Ignored (finish a st))) b ∙ ap (replies Accepted) (sym n)
-
-  -- ---- what can't be read
-  pub damaged_dead : (sh : Shape) (m : ℕ) → live_attempt st a ≡ None → outcome sh st (Damaged a m) ≡ replies Ignored st
-  damaged_dead sh m l = dead _ l
-
-  pub damaged_of_map : (sh : Shape) (m s : ℕ) → IsLive st a (MapTask s) → outcome sh st (Damaged a m) ≡ replies Ignored st
-  damaged_of_map sh m s l = alive (λ at t. damaged_by st a m at t) l.0 (MapTask s) l.1 l.2
-
-  pub damaged_unfetched : (sh : Shape) (m p : ℕ) (at : Attempt) (new : State) → live_attempt st a ≡ Some at → at.task ≡ ReduceTask p → latest_in (slice_get at.fetched m) ≡ None → new ≡ finish a st → outcome sh st (Damaged a m) ≡ replies Ignored new
-  damaged_unfetched sh m p at new l t e n =
-      alive (λ at t. damaged_by st a m at t) at (ReduceTask p) l t ∙ ap (damaged_from st a m) e ∙ ap (replies Ignored) (sym n)
-
-  pub damaged_fetched : (sh : Shape) (m p o : ℕ) (at : Attempt) (new : State) → live_attempt st a ≡ Some at → at.task ≡ ReduceTask p → latest_in (slice_get at.fetched m) ≡ Some o → new ≡ damage m o (finish a st) → outcome sh st (Damaged a m) ≡ replies Accepted new
-  damaged_fetched sh m p o at new l t e n =
-      alive (λ at t. damaged_by st a m at t) at (ReduceTask p) l t ∙ ap (damaged_from st a m) e ∙ ap (replies Accepted) (sym n)
-
-  -- ---- completions of maps
-  pub map_dead : (sh : Shape) (o : ℕ) → live_attempt st a ≡ None → outcome sh st (MapDone a o) ≡ replies Ignored st
-  map_dead sh o l = dead _ l
-
-  pub map_of_reduce : (sh : Shape) (o p : ℕ) → IsLive st a (ReduceTask p) → outcome sh st (MapDone a o) ≡ replies Ignored st
-  map_of_reduce sh o p l = alive (λ at t. map_done_by st a o at t) l.0 (ReduceTask p) l.1 l.2
-
-  pub map_late : (sh : Shape) (o s : ℕ) (at : Attempt) (new : State) → live_attempt st a ≡ Some at → at.task ≡ MapTask s → takes at.skips (slice_get st.splits s) ≡ false → new ≡ finish a st → outcome sh st (MapDone a o) ≡ replies Ignored new
-  map_late sh o s at new l t b n =
-      alive (λ at t. map_done_by st a o at t) at (MapTask s) l t ∙ ap (λ c. cond c (replies Accepted (complete s at.skips o at.worker (finish a st))) (replies Ignored (finish a st))) b ∙ ap (replies Ignored) (sym n)
-
-  pub map_completes : (sh : Shape) (o s : ℕ) (at : Attempt) (new : State) → live_attempt st a ≡ Some at → at.task ≡ MapTask s → takes at.skips (slice_get st.splits s) ≡ true → new ≡ complete s at.skips o at.worker (finish a st) → outcome sh st (MapDone a o) ≡ replies Accepted new
-  map_completes sh o s at new l t b n =
-      alive (λ at t. map_done_by st a o at t) at (MapTask s) l t ∙ ap (λ c. cond c (replies Accepted (complete s at.skips o at.worker (finish a st))) (replies Ignored (finish a st))) b ∙ ap (replies Accepted) (sym n)
 
   -- ---- failures
   pub failed_dead : (sh : Shape) (r : ℕ) → live_attempt st a ≡ None → outcome sh st (MapFailed a r) ≡ replies Ignored st
@@ -110,5 +51,3 @@ pub completed : (old : State) (ats : List Attempt) (sps : List Split) (a s o : �
     → sps ≡ update_at (λ (sp : Split). record { skips = at.skips; fixed = true; output = Some (o, at.worker) }) s old.splits
     → (let new : State = record old { splits = sps; attempts = ats } in new) ≡ complete s at.skips o at.worker (finish a old)
 completed old ats sps a s o at e d = λ i. record old { splits = d i; attempts = e i }
-
--- ---- open tasks

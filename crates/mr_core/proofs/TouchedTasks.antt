@@ -1,6 +1,7 @@
 -- Before an event of a job that goes on no end is reached, and an event touches only its attempt's task.
 use Rattle.std.proofs.Common.{◌≡◌, ℕ, zero, suc, ◌≤◌, Option, Some, None, List, [], ◌∷◌, replicate, slice_get, refl, ap, sym, ◌∙◌, subst, inl, inr, ◌⊎◌, arith, Bool, true, false, cond, not, ◌&&◌, ◌==◌, is_some, nat_lt}
 use Rattle.std.specs.List.{list_any, list_all, AllByRecursion, count_by}
+use Rattle.std.specs.Bool.{then_some}
 use Rattle.std.specs.Option.{option_map, option_map_or}
 use Rattle.std.proofs.lemmas.Bool.{cases_eq, false≢true, true≢false}
 use Rattle.std.proofs.lemmas.Option.{cond_some}
@@ -8,7 +9,6 @@ use Rattle.std.proofs.lemmas.List.Sums.{sum_by_push}
 use Rattle.mr_core.specs.declared.event.Task.{Task}
 use Rattle.mr_core.specs.declared.event.Event.{Event}
 use Rattle.mr_core.specs.declared.event.Reply.{Reply}
-use Rattle.mr_core.specs.declared.event.End.{End}
 use Rattle.mr_core.specs.declared.event.Shape.{Shape}
 use Rattle.mr_core.specs.declared.entries.Split.{Split}
 use Rattle.mr_core.specs.declared.event.Task.TheVariants.{Map as MapTask, Reduce as ReduceTask}
@@ -18,8 +18,8 @@ use Rattle.mr_core.specs.declared.event.Event.TheVariants.{Ask, Fetch, MapDone, 
 use Rattle.mr_core.specs.declared.event.Reply.TheVariants.{Map, Reduce, Wait, Stop, Region, Gone, Accepted, Ignored}
 use Rattle.mr_core.specs.Master.{State, Attempt, Outcome, Step, Run, opening, update_at, task_eq, finish, issue, fetch, complete, leave_out, note_failure, commit, lose, damage, without_output, damaged_from, damaged_by, latest_in, settled, end_of, is_stuck, is_complete, is_active, is_task, issued, live, tasks, live_attempt, only_live, fetch_by, fetched_from, map_done_by, map_failed_by, reduce_done_by, takes, may_leave_out, failed_before, left_out, on_live, outcome, replies, given, asked, may_give, same_list, with_number, reply_eq, reply_ended, next_going, next_by}
 use Rattle.mr_core.specs.Core.{InLimits, IsReached}
-use Rattle.mr_core.specs.Index.{IsGoing, IsTouched, IsTouchedBoth, task_at, IsPlain}
-use Rattle.mr_core.proofs.StepCases.{Rule, step_case, reply_eq-is}
+use Rattle.mr_core.specs.Index.{IsGoing, IsTouched, task_at, IsPlain}
+use Rattle.mr_core.proofs.StepCases.{Rule, step_case}
 use Rattle.mr_core.proofs.AttemptBounds.{attempts_few}
 use Rattle.mr_core.proofs.TaskSearch.{one_of_all}
 use Rattle.mr_core.proofs.Indexed.{count_same}
@@ -321,15 +321,16 @@ module _ (sh : Shape) (st : State) (a : ℕ) where
       let same : x.task ≡ t = cc seen in
       subst (λ (u : Task). is_task sh u ≡ true) same (on.tasks a x is)
 
-  pub touched : (e : Event) → IsBy e → InLimits sh → IsReached sh st → st.end ≡ None → (r : Reply) (mid : State) (over : Bool) (task : Option Task) → outcome sh st e ≡ record { reply = r; state = mid; over = over } → task ≡ task_at st a → IsTouched sh mid task
+  pub touched : (e : Event) → IsBy e → InLimits sh → IsReached sh st → st.end ≡ None → (r : Reply) (mid : State) (over : Bool) (task : Option Task) → outcome sh st e ≡ record { reply = r; state = mid; over = over } → task ≡ task_at st a → IsTouched sh mid task None
   touched e is limits h none r mid over task out e_task =
       let g = good e is in
       let on = going sh st limits h none in
       let state : (outcome sh st e).state ≡ mid = ap (λ (o : Outcome). o.state) out in
-      subst (λ (o : Option Task). IsTouched sh mid o) (sym e_task) (subst (λ (v : State). IsTouched sh v (task_at st a)) state (record {
+      subst (λ (o : Option Task). IsTouched sh mid o None) (sym e_task) (subst (λ (v : State). IsTouched sh v (task_at st a) None) state (record {
         active = ap (list_all (λ x. x)) g.lost ∙ on.active;
         here = λ t d. task_in_shape on (slice_get st.attempts a) refl t d;
-        others = λ t in_tasks n. g.others t n ∙ on.whole t in_tasks;
+        also = λ t d. absurd (cc d);
+        others = λ t in_tasks n k. g.others t n ∙ on.whole t in_tasks;
       }))
 
 -- ---- what an attempt can't read touches its task, and the map task of the split
@@ -361,13 +362,22 @@ module _ (sh : Shape) (st : State) (a m : ℕ) where
   live_both None d = of_good _ (good_same sh st a Ignored tt)
   live_both (Some at) d = damaged_case at d at.task
 
-  pub touched_both : InLimits sh → IsReached sh st → st.end ≡ None → (r : Reply) (mid : State) (task : Option Task) → outcome sh st (Damaged a m) ≡ replies r mid → task ≡ task_at st a → IsTouchedBoth sh mid task m
+  split_is : (b : Bool) → nat_lt m sh.maps ≡ b → (t : Task) → then_some b (MapTask m) ≡ Some t → is_task sh t ≡ true
+  split_is true e t d = let same : MapTask m ≡ t = cc d in subst (λ (u : Task). is_task sh u ≡ true) same e
+  split_is false e t d = absurd (cc d)
+
+  split_of : (b : Bool) → nat_lt m sh.maps ≡ b → (t : Task) → is_task sh t ≡ true → MapTask m ≡ t → then_some b (MapTask m) ≡ Some t
+  split_of true e t is d = ap Some d
+  split_of false e t is d = absurd (false≢true (sym e ∙ subst (λ (u : Task). is_task sh u ≡ true) (sym d) is))
+
+  pub touched_both : InLimits sh → IsReached sh st → st.end ≡ None → (r : Reply) (mid : State) (task : Option Task) → outcome sh st (Damaged a m) ≡ replies r mid → task ≡ task_at st a → IsTouched sh mid task (then_some (nat_lt m sh.maps) (MapTask m))
   touched_both limits h none r mid task out e_task =
       let g = live_both (live_attempt st a) refl in
       let on = going sh st limits h none in
       let state : (outcome sh st (Damaged a m)).state ≡ mid = ap (λ (o : Outcome). o.state) out in
-      subst (λ (o : Option Task). IsTouchedBoth sh mid o m) (sym e_task) (subst (λ (v : State). IsTouchedBoth sh v (task_at st a) m) state (record {
+      subst (λ (o : Option Task). IsTouched sh mid o (then_some (nat_lt m sh.maps) (MapTask m))) (sym e_task) (subst (λ (v : State). IsTouched sh v (task_at st a) (then_some (nat_lt m sh.maps) (MapTask m))) state (record {
         active = ap (list_all (λ x. x)) g.lost ∙ on.active;
         here = λ t d. task_in_shape sh st a on (slice_get st.attempts a) refl t d;
-        others = λ t in_tasks n k. g.others t n k ∙ on.whole t in_tasks;
+        also = λ t d. split_is (nat_lt m sh.maps) refl t d;
+        others = λ t in_tasks n k. g.others t n (λ e. k (split_of (nat_lt m sh.maps) refl t in_tasks e)) ∙ on.whole t in_tasks;
       }))

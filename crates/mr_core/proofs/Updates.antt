@@ -1,9 +1,8 @@
 -- A list changed at one place, and written through.
 use Rattle.std.proofs.Common.{◌≡◌, ℕ, zero, suc, ◌<◌, ◌≤◌, ◌+◌, Some, None, Option, Bool, true, false, List, [], ◌∷◌, ◌++◌, length, slice_get, slice_index_or, map, take, drop, refl, ap, sym, ◌∙◌, subst, arith}
 use Rattle.std.specs.Prelude.{slice_set}
-use Rattle.mr_core.specs.declared.entries.Split.{Split}
 use Rattle.mr_core.specs.Index.{IsLonger}
-use Rattle.mr_core.specs.Master.{Attempt, update_at, takes, only_live}
+use Rattle.mr_core.specs.Master.{Attempt, update_at, only_live}
 
 pub set_is_update : {X : Type 0} (xs : List X) (i : ℕ) (x : X) → slice_set xs i x ≡ update_at (λ y. x) i xs
 set_is_update [] i x = refl

@@ -46,14 +46,6 @@ IsBelow maps parts (ReduceTask p) = p < parts
 abbrev pub counted : List Attempt → Task → Count
 counted xs t = record { issued = count_by (λ a. task_eq a.task t) xs; live = count_by (λ a. task_eq a.task t && a.live) xs }
 
--- ---- the outputs
-
--- 1 for a place with no output
-abbrev pub vacancy : Option (Option ℕ) → ℕ
-vacancy None = 0
-vacancy (Some None) = 1
-vacancy (Some (Some o)) = 0
-
 -- ---- the failures
 
 -- the list with one record more, where there is one
@@ -111,17 +103,12 @@ pub record IsGoing (sh : Shape) (st : State) : Type 0 where
 abbrev pub task_at : State → ℕ → Option Task
 task_at st a = option_map (λ x. x.task) (slice_get st.attempts a)
 
--- what is known after an event that touched no task but this one
-pub record IsTouched (sh : Shape) (st : State) (task : Option Task) : Type 0 where
+-- what is known after an event that touched no task but these two
+pub record IsTouched (sh : Shape) (st : State) (task other : Option Task) : Type 0 where
   pub active : list_all (λ x. x) st.lost ≡ false
   pub here : (t : Task) → task ≡ Some t → is_task sh t ≡ true
-  pub others : (t : Task) → is_task sh t ≡ true → (task ≡ Some t → ⊥) → is_stuck sh st t ≡ false
-
--- what is known after an event that touched no task but this one and the map task of this split
-pub record IsTouchedBoth (sh : Shape) (st : State) (task : Option Task) (map : ℕ) : Type 0 where
-  pub active : list_all (λ x. x) st.lost ≡ false
-  pub here : (t : Task) → task ≡ Some t → is_task sh t ≡ true
-  pub others : (t : Task) → is_task sh t ≡ true → (task ≡ Some t → ⊥) → (MapTask map ≡ t → ⊥) → is_stuck sh st t ≡ false
+  pub also : (t : Task) → other ≡ Some t → is_task sh t ≡ true
+  pub others : (t : Task) → is_task sh t ≡ true → (task ≡ Some t → ⊥) → (other ≡ Some t → ⊥) → is_stuck sh st t ≡ false
 
 -- a reply with no list
 abbrev pub IsPlain : Reply → Type 0

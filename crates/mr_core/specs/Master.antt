@@ -187,14 +187,18 @@ damage m o st = record st { splits = update_at (without_output o) m st.splits }
 abbrev pub is_stuck : Shape → State → Task → Bool
 is_stuck sh st t = not (is_complete st t) && ((live st t == 0) && not (nat_lt (issued st t) sh.limits.attempts))
 
+-- the first end that holds
+abbrev pub first_end : (done lost over stuck : Bool) → Option End
+first_end done lost over stuck =
+    if done then Some Done
+    else if lost then Some (Failed NoWorkers)
+    else if over then Some (Failed TooManySkips)
+    else if stuck then Some (Failed TooManyAttempts)
+    else None
+
 -- the end that a state has reached; over: one record too many was to be left out
 abbrev pub end_of : Shape → State → Bool → Option End
-end_of sh st over =
-    if list_all is_some st.committed then Some Done
-    else if list_all (λ x. x) st.lost then Some (Failed NoWorkers)
-    else if over then Some (Failed TooManySkips)
-    else if list_any (is_stuck sh st) (tasks sh) then Some (Failed TooManyAttempts)
-    else None
+end_of sh st over = first_end (list_all is_some st.committed) (list_all (λ x. x) st.lost) over (list_any (is_stuck sh st) (tasks sh))
 
 abbrev pub settled : Shape → State → Bool → State
 settled sh st over = record st { end = end_of sh st over }

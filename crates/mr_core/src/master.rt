@@ -10,7 +10,7 @@
 //! copy made afterwards could fail.
 //! Cost: a few steps an event, but for a lost worker (`tables.rt`).
 //! Source: OSDI 2004, sections 3.2, 3.3, 3.6 and 4.6.
-ghost use Rattle.std.specs.Prelude.{◌≡◌, OnOk, OnErr, IfOk, [], ◌<◌, ℕ, true, Some, None, List};
+ghost use Rattle.std.specs.Prelude.{◌≡◌, OnErr, IfOk, [], ◌<◌, ℕ, true, Some, None, List};
 ghost use Rattle.std.specs.Prelude.{◌∷◌, ◌++◌, ◌↔◌, is_some, slice_get};
 ghost use Rattle.mr_core.specs.declared.event.Event.{Event};
 ghost use Rattle.mr_core.specs.Core.{IsStep, InLimits, IsRun, GoesOn, TakesMemory};
@@ -62,7 +62,7 @@ impl Core {
         }
         let task = self.tables.task_at(attempt);
         let reply = self.tables.fetch(attempt, map);
-        self.tables.settle_at(self.shape, task, false);
+        self.tables.settle_at(self.shape, task, None, false);
         reply
     }
 
@@ -75,7 +75,7 @@ impl Core {
         }
         let task = self.tables.task_at(attempt);
         let reply = self.tables.map_done(attempt, output);
-        self.tables.settle_at(self.shape, task, false);
+        self.tables.settle_at(self.shape, task, None, false);
         reply
     }
 
@@ -88,7 +88,7 @@ impl Core {
         }
         let task = self.tables.task_at(attempt);
         let reply = self.tables.reduce_done(attempt, output);
-        self.tables.settle_at(self.shape, task, false);
+        self.tables.settle_at(self.shape, task, None, false);
         reply
     }
 
@@ -113,7 +113,8 @@ impl Core {
         }
         let task = self.tables.task_at(attempt);
         let reply = self.tables.damaged(attempt, map);
-        self.tables.settle_at_both(self.shape, task, map);
+        let other = (map < self.shape.maps).then_some(Task::Map(map));
+        self.tables.settle_at(self.shape, task, other, false);
         reply
     }
 
@@ -127,7 +128,7 @@ impl Core {
         }
         let task = self.tables.task_at(attempt);
         let (reply, over) = self.tables.map_failed(self.shape, attempt, number)?;
-        self.tables.settle_at(self.shape, task, over);
+        self.tables.settle_at(self.shape, task, None, over);
         Ok(reply)
     }
 
@@ -194,9 +195,7 @@ impl Core {
         ensures memory { OnErr result (TakesMemory event) }
         ensures err { OnErr result (self.new ≡ self.old) }
     {
-        // This shows the invariant: the shape is within the limits.
-        let _ = &self.shape;
-        let (reply, _again) = self.step(alloc, event)?;
+        let (reply, _again) = self.apply_with_copy(alloc, event)?;
         Ok(reply)
     }
 

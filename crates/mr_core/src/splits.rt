@@ -8,7 +8,7 @@ ghost use Rattle.mr_core.specs.Master.{update_at, gone_with, is_numbered, with_n
 ghost use Rattle.mr_core.specs.Master.{without_output, same_list};
 ghost use Rattle.mr_core.specs.Index.{IsLonger};
 
-use crate::entries::{Split, count_missing, has_room, leave_out, leave_outputs, new_splits};
+use crate::entries::Split;
 use std::alloc::{AllocError, Global};
 use std::marker::Model;
 
@@ -36,7 +36,14 @@ impl Splits {
         ensures { IfOk result
             (λ s. s ≡ replicate count (record { skips = []; fixed = false; output = None })) }
     {
-        let items = new_splits(alloc, count)?;
+        let mut items = Vec::new(alloc);
+        for _i in 0..count {
+            items.push(Split {
+                skips: Skips::none(alloc),
+                fixed: false,
+                output: None,
+            })?;
+        }
         let missing = count_missing(items.as_slice());
         Ok(Splits { items, missing })
     }
@@ -56,6 +63,7 @@ impl Splits {
     }
 
     /// Sets the split's output and worker. Its left-out records become `skips`, and are fixed.
+    #[tactic(auto, using(crate::proofs::Missing::split_filled, crate::proofs::Updates::update_is_set, crate::proofs::Updates::update_past))]
     pub(crate) fn complete(&mut self, at: u32, skips: &mut Skips, output: u64, worker: u32)
         ensures { self.new ≡ update_at
             (λ sp. record {
@@ -65,21 +73,27 @@ impl Splits {
                   (output, worker);
             }) at self.old }
     {
-        let filled = complete_at(self.items.as_mut_slice(), at, skips, output, worker);
+        let at = at as usize;
+        if at >= self.items.len() {
+            return;
+        }
+        let filled = fix(&mut self.items[at], skips, output, worker);
         self.missing -= filled;
     }
 
     /// Adds a record to those left out of the split, where `adds` says so.
+    #[tactic(auto, using(crate::proofs::Updates::update_is_set, crate::proofs::Updates::update_past, crate::proofs::Updates::set_same, crate::proofs::Missing::count_set))]
     pub(crate) fn leave_out(&mut self, at: u32, number: u32, adds: bool) -> Result<(), AllocError>
         ensures noted { OnOk result (adds ≡ false → self.new ≡ self.old) }
         ensures added { OnOk result (adds ≡ true → self.new ≡ update_at
             (λ sp. record sp { skips = with_number number sp.skips }) at self.old) }
         ensures err { OnErr result (self.new ≡ self.old) }
     {
-        if !adds {
+        let at = at as usize;
+        if !adds || at >= self.items.len() {
             return Ok(());
         }
-        leave_out(self.items.as_mut_slice(), at, number)
+        self.items[at].skips.add(number)
     }
 
     /// Removes the outputs that a worker holds. It visits all splits.
@@ -91,10 +105,15 @@ impl Splits {
     }
 
     /// Removes the split's output, where it has this number.
+    #[tactic(auto, using(crate::proofs::Missing::split_emptied, crate::proofs::Updates::update_is_set, crate::proofs::Updates::update_past))]
     pub(crate) fn damage(&mut self, at: u32, output: u64)
         ensures { self.new ≡ update_at (without_output output) at self.old }
     {
-        let emptied = empty_at(self.items.as_mut_slice(), at, output);
+        let at = at as usize;
+        if at >= self.items.len() {
+            return;
+        }
+        let emptied = empty(&mut self.items[at], output);
         self.missing += emptied;
     }
 
@@ -102,30 +121,45 @@ impl Splits {
     pub(crate) fn has_room(&self, limit: u32) -> bool
         ensures { result ≡ nat_lt (sum_by (λ sp. length sp.skips) self.now) limit }
     {
-        has_room(self.items.as_slice(), limit)
+        let mut room = limit as usize;
+        let splits = self.as_slice();
+        for split in splits {
+            let count = split.skips.as_slice().len();
+            if count >= room {
+                return false;
+            }
+            room -= count;
+        }
+        room > 0
     }
 }
 
-/// Completes the split at `at`, where there is one. Returns 1 where it had no output.
-#[tactic(auto, using(crate::proofs::Missing::split_filled, crate::proofs::Updates::update_is_set, crate::proofs::Updates::update_past))]
-fn complete_at(splits: &mut [Split], at: u32, skips: &mut Skips, output: u64, worker: u32) -> usize
-    ensures splits { splits.new ≡ update_at
-        (λ sp. record {
-          skips = skips.old;
-          fixed = true;
-          output = Some
-              (output, worker);
-        }) at splits.old }
-    ensures count { count_by (λ sp. is_none sp.output) splits.new + result ≡ count_by
-        (λ sp. is_none sp.output) splits.old }
+/// Removes the outputs that a worker holds.
+#[tactic(auto, using(crate::proofs::Updates::map_one_more, crate::proofs::Updates::map_none_yet, crate::proofs::Updates::map_all))]
+fn leave_outputs(splits: &mut [Split], worker: u32)
+    ensures { splits.new ≡ map (gone_with worker) splits.old }
 {
-    let at = at as usize;
-    if at >= splits.len() {
-        return 0;
+    for i in 0..splits.len() {
+        leave_output(&mut splits[i], worker);
     }
-    fix(&mut splits[at], skips, output, worker)
 }
 
+fn leave_output(split: &mut Split, worker: u32)
+    ensures { split.new ≡ gone_with worker split.old }
+{
+    if matches!(split.output, Some((_, holder)) if holder == worker) {
+        split.output = None;
+    }
+}
+
+/// The number of splits without output.
+fn count_missing(splits: &[Split]) -> usize
+    ensures { result ≡ count_by (λ sp. is_none sp.output) splits.now }
+{
+    splits.iter().filter(|split| split.output.is_none()).count()
+}
+
+/// Completes the split. Returns 1 where it had no output.
 fn fix(split: &mut Split, skips: &mut Skips, output: u64, worker: u32) -> usize
     ensures split { split.new ≡ record { skips = skips.old; fixed = true; output = Some (output, worker) } }
     ensures count { result ≡ (if is_none split.old.output then 1 else 0) }
@@ -137,20 +171,7 @@ fn fix(split: &mut Split, skips: &mut Skips, output: u64, worker: u32) -> usize
     filled
 }
 
-/// Removes the output at `at`, where it has this number. Returns the number of outputs removed.
-#[tactic(auto, using(crate::proofs::Missing::split_emptied, crate::proofs::Updates::update_is_set, crate::proofs::Updates::update_past))]
-fn empty_at(splits: &mut [Split], at: u32, output: u64) -> usize
-    ensures splits { splits.new ≡ update_at (without_output output) at splits.old }
-    ensures count { count_by (λ sp. is_none sp.output) splits.new ≡ count_by
-        (λ sp. is_none sp.output) splits.old + result }
-{
-    let at = at as usize;
-    if at >= splits.len() {
-        return 0;
-    }
-    empty(&mut splits[at], output)
-}
-
+/// Removes the output, where it has this number. Returns how many it removed.
 fn empty(split: &mut Split, output: u64) -> usize
     ensures split { split.new ≡ without_output output split.old }
     ensures count { result ≡ (if is_numbered output split.old.output then 1 else 0) }

@@ -10,21 +10,19 @@
 //! that is incomplete, without a live attempt and out of attempts is stuck. No task is so before an
 //! event, so the ends are tested for the tasks that the event touched. Only the loss of a worker
 //! visits all tasks, and resets both cursors.
-ghost use Rattle.std.specs.Prelude.{◌≡◌, ℕ, true, false, Option, Some, None, ◌==◌, ◌<◌, nat_lt};
-ghost use Rattle.std.specs.Prelude.{MatchOption, IfOk, slice_get};
+ghost use Rattle.std.specs.Prelude.{◌≡◌, true, false, Option, Some, None, ◌==◌, ◌<◌, nat_lt};
+ghost use Rattle.std.specs.Prelude.{MatchOption, IfOk};
 ghost use Rattle.std.specs.List.{list_any};
 ghost use Rattle.std.specs.Option.{option_map_or};
 ghost use Rattle.mr_core.specs.declared.event.Shape.{Shape};
 ghost use Rattle.mr_core.specs.declared.event.Task.{Task};
-ghost use Rattle.mr_core.specs.declared.entries.Split.{Split};
-ghost use Rattle.mr_core.specs.Queries.{IsLive};
-ghost use Rattle.mr_core.specs.Looks.{output_of, committed_of, number_of, set_of};
-ghost use Rattle.mr_core.specs.Master.{State, tasks, is_active, is_complete, maps_complete, issued};
-ghost use Rattle.mr_core.specs.Master.{live, is_stuck, live_attempt, end_of, settled, opening};
-ghost use Rattle.mr_core.specs.Index.{counted, task_at, IsTouched, IsTouchedBoth};
+ghost use Rattle.mr_core.specs.Looks.{output_of, committed_of, set_of};
+ghost use Rattle.mr_core.specs.Master.{State, tasks, is_active, is_complete, first_end, issued};
+ghost use Rattle.mr_core.specs.Master.{live, is_stuck, live_attempt, settled, opening};
+ghost use Rattle.mr_core.specs.Index.{task_at, IsTouched};
 
 use crate::attempts::{Attempts, Count};
-use crate::entries::{Outputs, all_true, copies};
+use crate::entries::{Attempt, Outputs, all_true, copies};
 use crate::event::{End, JobFault, Shape, Task};
 use crate::splits::{Failed, Splits, none_failed};
 use std::alloc::{AllocError, Global};
@@ -88,30 +86,18 @@ impl MasterState {
         }
     }
 
-    fn count(&self, task: Task) -> Count
-        ensures { result ≡ counted self.now.attempts task }
-    {
-        self.attempts.count(task)
-    }
-
     /// Whether the task may have more attempts.
     fn has_few(&self, shape: Shape, task: Task) -> bool
         ensures { result ≡ nat_lt (issued self.now task) shape.limits.attempts }
     {
-        self.count(task).issued < shape.limits.attempts
+        self.attempts.count(task).issued < shape.limits.attempts
     }
 
     /// Whether exactly `number` attempts of the task are live.
     fn has_live(&self, task: Task, number: u32) -> bool
         ensures { result ≡ (live self.now task == number) }
     {
-        self.count(task).live == number
-    }
-
-    fn maps_complete(&self) -> bool
-        ensures { result ≡ maps_complete self.now }
-    {
-        self.splits.is_whole()
+        self.attempts.count(task).live == number
     }
 
     /// Whether the task can't be completed any more.
@@ -121,13 +107,13 @@ impl MasterState {
         !self.is_complete(task) && self.has_live(task, 0) && !self.has_few(shape, task)
     }
 
-    /// The task of a live attempt.
-    fn live_task(&self, attempt: u32) -> Option<Task>
-        ensures { MatchOption result (live_attempt self.now attempt ≡ None) (λ t. IsLive self.now attempt t) }
+    /// The attempt of this number, where it is live.
+    fn live(&self, attempt: u32) -> Option<&Attempt>
+        ensures { MatchOption result (live_attempt self.now attempt ≡ None) (λ at. live_attempt self.now attempt ≡ Some at.now) }
     {
         let attempt = self.attempts.as_slice().get(attempt as usize)?;
         if attempt.is_live() {
-            Some(attempt.task())
+            Some(attempt)
         } else {
             None
         }
@@ -186,72 +172,22 @@ impl MasterState {
         false
     }
 
-    /// The end that the job has reached. It visits all tasks.
-    fn end_of(&self, shape: Shape) -> Option<End>
-        ensures { result ≡ end_of shape self.now false }
-    {
-        if self.committed.is_whole() {
-            Some(End::Done)
-        } else if all_true(self.lost.as_slice()) {
-            Some(End::Failed(JobFault::NoWorkers))
-        } else if self.has_stuck(shape) {
-            Some(End::Failed(JobFault::TooManyAttempts))
-        } else {
-            None
-        }
-    }
-
     /// Tests the ends after the loss of a worker. It visits all tasks.
     pub(crate) fn settle(&mut self, shape: Shape)
         ensures { self.new ≡ settled shape self.old false }
     {
-        self.end = self.end_of(shape);
+        let lost = all_true(self.lost.as_slice());
+        let stuck = self.has_stuck(shape);
+        self.end = first_end(self.committed.is_whole(), lost, false, stuck);
     }
 
-    /// Whether `task`, the only one that can be stuck, is.
-    #[tactic(auto, using(crate::proofs::EndTests::stuck_here, crate::proofs::EndTests::stuck_nowhere))]
-    fn is_stuck_at(&self, shape: Shape, task: Option<Task>) -> bool
-        requires { IsTouched shape self.now task }
+    /// Whether one of two tasks is stuck, which are the only ones that can be.
+    #[tactic(auto, using(crate::proofs::EndTests::stuck_first, crate::proofs::EndTests::stuck_second))]
+    fn is_stuck_at(&self, shape: Shape, task: Option<Task>, other: Option<Task>) -> bool
+        requires { IsTouched shape self.now task other }
         ensures { result ≡ list_any (is_stuck shape self.now) (tasks shape) }
     {
-        match task {
-            Some(task) => self.is_stuck(shape, task),
-            None => false,
-        }
-    }
-
-    /// The end after an event that touched only `task`.
-    #[tactic(auto, using(crate::proofs::EndTests::end_left))]
-    fn end_after(&self, shape: Shape, task: Option<Task>, over: bool) -> Option<End>
-        requires { IsTouched shape self.now task }
-        ensures { result ≡ end_of shape self.now over }
-    {
-        if self.committed.is_whole() {
-            Some(End::Done)
-        } else if over {
-            Some(End::Failed(JobFault::TooManySkips))
-        } else if self.is_stuck_at(shape, task) {
-            Some(End::Failed(JobFault::TooManyAttempts))
-        } else {
-            None
-        }
-    }
-
-    /// Tests the ends after an event that touched only `task`.
-    pub(crate) fn settle_at(&mut self, shape: Shape, task: Option<Task>, over: bool)
-        requires { IsTouched shape self.old task }
-        ensures { self.new ≡ settled shape self.old over }
-    {
-        self.end = self.end_after(shape, task, over);
-    }
-
-    /// Whether `task` or the map task of `map` is stuck. No other task can be.
-    #[tactic(auto, using(crate::proofs::EndTests::stuck_at_both, crate::proofs::EndTests::stuck_at_first, crate::proofs::EndTests::stuck_at_second))]
-    fn is_stuck_at_both(&self, shape: Shape, task: Option<Task>, map: u32) -> bool
-        requires { IsTouchedBoth shape self.now task map }
-        ensures { result ≡ list_any (is_stuck shape self.now) (tasks shape) }
-    {
-        self.is_stuck_one(shape, task) || (map < shape.maps && self.is_stuck(shape, Task::Map(map)))
+        self.is_stuck_one(shape, task) || self.is_stuck_one(shape, other)
     }
 
     fn is_stuck_one(&self, shape: Shape, task: Option<Task>) -> bool
@@ -263,27 +199,19 @@ impl MasterState {
         }
     }
 
-    /// The end after an event that touched only `task` and the map task of `map`.
-    #[tactic(auto, using(crate::proofs::EndTests::end_left))]
-    fn end_after_both(&self, shape: Shape, task: Option<Task>, map: u32) -> Option<End>
-        requires { IsTouchedBoth shape self.now task map }
-        ensures { result ≡ end_of shape self.now false }
+    /// Tests the ends after an event that touched only `task` and `other`.
+    pub(crate) fn settle_at(
+        &mut self,
+        shape: Shape,
+        task: Option<Task>,
+        other: Option<Task>,
+        over: bool,
+    )
+        requires { IsTouched shape self.old task other }
+        ensures { self.new ≡ settled shape self.old over }
     {
-        if self.committed.is_whole() {
-            Some(End::Done)
-        } else if self.is_stuck_at_both(shape, task, map) {
-            Some(End::Failed(JobFault::TooManyAttempts))
-        } else {
-            None
-        }
-    }
-
-    /// Tests the ends after an event that touched only `task` and the map task of `map`.
-    pub(crate) fn settle_at_both(&mut self, shape: Shape, task: Option<Task>, map: u32)
-        requires { IsTouchedBoth shape self.old task map }
-        ensures { self.new ≡ settled shape self.old false }
-    {
-        self.end = self.end_after_both(shape, task, map);
+        let stuck = self.is_stuck_at(shape, task, other);
+        self.end = first_end(self.committed.is_whole(), false, over, stuck);
     }
 
     pub(crate) fn new(alloc: Global, shape: Shape) -> Result<MasterState, AllocError>
@@ -291,13 +219,12 @@ impl MasterState {
     {
         let lost = copies(alloc, false, shape.workers)?;
         let attempts = Attempts::new(alloc, shape.maps, shape.parts, shape.workers)?;
-        let (splits, committed, failures) = open_tasks(alloc, shape)?;
         Ok(MasterState {
             lost,
-            splits,
-            committed,
+            splits: Splits::new(alloc, shape.maps)?,
+            committed: Outputs::new(alloc, shape.parts)?,
             attempts,
-            failures,
+            failures: none_failed(alloc, shape.maps)?,
             end: None,
             next_map: 0,
             next_part: 0,
@@ -305,14 +232,20 @@ impl MasterState {
     }
 }
 
-/// The splits, the outputs of partitions and the failures in each split, as a job begins.
-fn open_tasks(alloc: Global, shape: Shape) -> Result<(Splits, Outputs, Vec<Failed>), AllocError>
-    ensures splits { IfOk result (λ r. r.0 ≡ (opening shape).splits) }
-    ensures committed { IfOk result (λ r. r.1 ≡ (opening shape).committed) }
-    ensures failures { IfOk result (λ r. r.2.items ≡ (opening shape).failures) }
+/// The end of a job, or `None`: its partitions are committed, its workers are lost, one record too
+/// many would be left out, or a task is stuck.
+fn first_end(done: bool, lost: bool, over: bool, stuck: bool) -> Option<End>
+    ensures { result ≡ first_end done lost over stuck }
 {
-    let splits = Splits::new(alloc, shape.maps)?;
-    let committed = Outputs::new(alloc, shape.parts)?;
-    let failures = none_failed(alloc, shape.maps)?;
-    Ok((splits, committed, failures))
+    if done {
+        Some(End::Done)
+    } else if lost {
+        Some(End::Failed(JobFault::NoWorkers))
+    } else if over {
+        Some(End::Failed(JobFault::TooManySkips))
+    } else if stuck {
+        Some(End::Failed(JobFault::TooManyAttempts))
+    } else {
+        None
+    }
 }

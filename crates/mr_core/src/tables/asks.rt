@@ -11,17 +11,16 @@
 //! row allows several tasks, any is right; of idle ones it gives the first.
 //! Cost: a search from a cursor; for a backup one step a worker. Replies are made twice.
 //! Source: OSDI 2004, sections 3.1 and 3.6.
-ghost use Rattle.std.specs.Prelude.{◌≡◌, ℕ, ◌<◌, ◌≤◌, ◌^◌, true, false, Option, Some, None, List, [], ◌∷◌, ◌++◌, ◌==◌, ◌&&◌, length, replicate, slice_get, MatchOption, OnOk, OnErr, IfOk};
+ghost use Rattle.std.specs.Prelude.{◌≡◌, ℕ, ◌<◌, ◌≤◌, ◌^◌, true, false, Option, Some, None, [], ◌∷◌, ◌++◌, ◌&&◌, length, slice_get, MatchOption, OnOk, OnErr, IfOk};
 ghost use Rattle.std.specs.List.{list_any};
 ghost use Rattle.mr_core.specs.declared.event.Shape.{Shape};
 ghost use Rattle.mr_core.specs.declared.event.Task.{Task};
-ghost use Rattle.mr_core.specs.declared.entries.Split.{Split};
 ghost use Rattle.mr_core.specs.Queries.{is_lone, is_ready};
 ghost use Rattle.mr_core.specs.Master.{Attempt, tasks, is_task, may_newly, may_give, given, asked, has_live};
-ghost use Rattle.mr_core.specs.Index.{is_idle, IsGoing, IsCurrent, IsBelow};
+ghost use Rattle.mr_core.specs.Index.{is_idle, IsGoing, IsBelow};
 
 use super::MasterState;
-use crate::entries::{Attempt, Fetched};
+use crate::entries::Attempt;
 use crate::event::{End, Reply, Shape, Task};
 use crate::splits::Skips;
 use std::alloc::{AllocError, Global};
@@ -94,7 +93,7 @@ impl MasterState {
         if split < shape.maps {
             return Some(Task::Map(split));
         }
-        if !self.maps_complete() {
+        if !self.splits.is_whole() {
             return None;
         }
         let partition = self.next_part(shape.parts);
@@ -111,7 +110,7 @@ impl MasterState {
     {
         match task {
             Task::Map(_) => true,
-            Task::Reduce(_) => self.maps_complete(),
+            Task::Reduce(_) => self.splits.is_whole(),
         }
     }
 
@@ -161,12 +160,6 @@ impl MasterState {
         None
     }
 
-    fn is_busy(&self, worker: u32) -> bool
-        ensures { result ≡ has_live self.now worker }
-    {
-        self.attempts.current(worker as usize).is_some()
-    }
-
     /// A task that the worker may get.
     fn task_for(&mut self, shape: Shape, worker: u32) -> Option<Task>
         requires { IsGoing shape self.old }
@@ -174,20 +167,13 @@ impl MasterState {
         ensures found { MatchOption result (list_any (may_give shape self.old worker) (tasks shape)
             ≡ false) (λ t. may_give shape self.old worker t ≡ true) }
     {
-        if self.is_busy(worker) {
+        if self.attempts.current(worker as usize).is_some() {
             return None;
         }
         if let Some(task) = self.find_newly(shape) {
             return Some(task);
         }
         self.find_lone(shape)
-    }
-
-    fn issued(&self) -> u32
-        requires { length self.now.attempts < 2 ^ 31 }
-        ensures { result ≡ length self.now.attempts }
-    {
-        self.attempts.as_slice().len() as u32
     }
 
     /// Issues an attempt of a map task. Returns two equal replies.
@@ -205,10 +191,10 @@ impl MasterState {
         ensures twice { IfOk result (λ r. r.0 ≡ r.1) }
         ensures err { OnErr result (self.new ≡ self.old) }
     {
-        let attempt = self.issued();
-        let skips = self.set_of(alloc, split)?;
+        let attempt = self.attempts.as_slice().len() as u32;
+        let skips = Skips::copy_of(alloc, self.set(split))?;
         let again = Skips::copy_of(alloc, skips.as_slice())?;
-        let issued = map_attempt(alloc, worker, split, &skips)?;
+        let issued = Attempt::new(alloc, worker, Task::Map(split), skips.as_slice(), 0)?;
         self.push(issued)?;
         Ok((
             Reply::Map {
@@ -222,16 +208,6 @@ impl MasterState {
                 skips: again,
             },
         ))
-    }
-
-    /// A copy of the records left out of a split.
-    fn set_of(&self, alloc: Global, split: u32) -> Result<Skips, AllocError>
-        ensures { IfOk result (λ k. (sp : Split) → slice_get self.now.splits split ≡ Some sp → k ≡ sp.skips) }
-    {
-        match self.splits.as_slice().get(split as usize) {
-            Some(split) => Skips::copy_of(alloc, split.skips.as_slice()),
-            None => Ok(Skips::none(alloc)),
-        }
     }
 
     fn push(&mut self, attempt: Attempt) -> Result<(), AllocError>
@@ -263,8 +239,8 @@ impl MasterState {
         ensures twice { IfOk result (λ r. r.0 ≡ r.1) }
         ensures err { OnErr result (self.new ≡ self.old) }
     {
-        let attempt = self.issued();
-        let issued = reduce_attempt(alloc, shape, worker, partition)?;
+        let attempt = self.attempts.as_slice().len() as u32;
+        let issued = Attempt::new(alloc, worker, Task::Reduce(partition), &[], shape.maps)?;
         self.push(issued)?;
         Ok((
             Reply::Reduce { attempt, partition },
@@ -294,33 +270,4 @@ impl MasterState {
             Some(Task::Reduce(partition)) => self.issue_reduce(alloc, shape, worker, partition),
         }
     }
-}
-
-fn map_attempt(alloc: Global, worker: u32, split: u32, skips: &Skips) -> Result<Attempt, AllocError>
-    ensures { IfOk result
-        (λ a. a ≡ record { worker = worker; task = Task.Map split; skips = skips.now; fetched = []; live = true }) }
-{
-    let own = Skips::copy_of(alloc, skips.as_slice())?;
-    let spare = Skips::copy_of(alloc, skips.as_slice())?;
-    let fetched = Fetched::none(alloc, 0)?;
-    Ok(Attempt::of(worker, Task::Map(split), own, spare, fetched))
-}
-
-fn reduce_attempt(
-    alloc: Global,
-    shape: Shape,
-    worker: u32,
-    partition: u32,
-) -> Result<Attempt, AllocError>
-    ensures { IfOk result
-        (λ a. a ≡ record { worker = worker; task = Task.Reduce partition; skips = []; fetched = replicate shape.maps None; live = true }) }
-{
-    let fetched = Fetched::none(alloc, shape.maps)?;
-    Ok(Attempt::of(
-        worker,
-        Task::Reduce(partition),
-        Skips::none(alloc),
-        Skips::none(alloc),
-        fetched,
-    ))
 }

@@ -7,50 +7,35 @@
 //!     MapFailed    Accepted; a record that failed before is left out, unless the set is fixed
 //!     ReduceDone   not committed, and each split fetched: Accepted, and committed; else Ignored
 //!     Damaged      Accepted, and the split's output is gone if it is the one fetched last
-//!     Lose         Accepted; the worker's attempt ends, and its map outputs are gone (`leave`)
+//!     Lose         Accepted; the worker's attempt ends, and its map outputs are gone
 //!
 //! All but a good Fetch end the attempt. A task whose output is gone is idle again: the cursors
 //! move back, and the next asks give it. What a lost worker committed stays.
 //! Source: OSDI 2004, sections 3.3 and 4.6.
-ghost use Rattle.std.specs.Prelude.{◌≡◌, ℕ, ◌≤◌, ◌<◌, true, false, Some, None, ◌&&◌, nat_lt, MatchOption, OnOk, OnErr, IfOk, slice_get, is_some, length};
-ghost use Rattle.std.specs.List.{list_all};
+ghost use Rattle.std.specs.Prelude.{◌≡◌, ◌<◌, true, false, Some, None, ◌&&◌, OnOk, OnErr, IfOk, slice_get};
 ghost use Rattle.mr_core.specs.declared.event.Shape.{Shape};
 ghost use Rattle.mr_core.specs.declared.event.Task.{Task};
 ghost use Rattle.mr_core.specs.declared.event.Event.{Event};
-ghost use Rattle.mr_core.specs.declared.entries.Split.{Split};
 ghost use Rattle.mr_core.specs.Queries.{IsLive};
-ghost use Rattle.mr_core.specs.Master.{Attempt, finish, fetch, commit, complete, damage, latest_in, lose, live_attempt, outcome, replies, takes, may_leave_out, failed_before, left_out, leave_out, note_failure};
+ghost use Rattle.mr_core.specs.Master.{Attempt, finish, fetch, commit, complete, damage, lose, live_attempt, outcome, replies, takes, may_leave_out, failed_before, leave_out, note_failure};
 
 use super::MasterState;
-use crate::entries::{all_some, put};
+use crate::entries::{Attempt, put};
 use crate::event::{Reply, Shape, Task};
 use crate::splits::{longer_list, put_longer};
 use std::alloc::AllocError;
 
 impl MasterState {
-    /// The output of a split, with its worker; `None` where there is no such split.
-    fn split_output(&self, map: u32) -> Option<Option<(u64, u32)>>
-        ensures { MatchOption result (slice_get self.now.splits map ≡ None)
-            (λ o. (sp : Split) × (slice_get self.now.splits map ≡ Some sp) × (sp.output ≡ o)) }
-    {
-        let split = self.splits.as_slice().get(map as usize)?;
-        Some(split.output)
-    }
-
     /// Ends the live attempt, and moves the cursor back to its task.
     fn finish(&mut self, attempt: u32, task: Task)
         requires { IsLive self.old attempt task }
         ensures { self.new ≡ finish attempt self.old }
     {
-        self.next_map = map_cursor(self.next_map, task);
-        self.next_part = part_cursor(self.next_part, task);
         self.attempts.end(attempt);
-    }
-
-    fn note(&mut self, attempt: u32, map: u32, output: u64)
-        ensures { self.new ≡ fetch attempt map output self.old }
-    {
-        self.attempts.note_fetch(attempt, map, output);
+        match task {
+            Task::Map(split) => self.next_map = self.next_map.min(split),
+            Task::Reduce(partition) => self.next_part = self.next_part.min(partition),
+        }
     }
 
     /// Ends the live attempt of the partition, and commits its output.
@@ -66,32 +51,22 @@ impl MasterState {
     pub(crate) fn fetch(&mut self, attempt: u32, map: u32) -> Reply
         ensures { (sh : Shape) → outcome sh self.old (Event.Fetch attempt map) ≡ replies result self.new }
     {
-        let Some(task) = self.live_task(attempt) else {
+        let Some(at) = self.live(attempt) else {
             return Reply::Ignored;
         };
+        let task = at.task();
         let Task::Reduce(_) = task else {
             return Reply::Ignored;
         };
-        let Some(output) = self.split_output(map) else {
+        let Some(split) = self.splits.as_slice().get(map as usize) else {
             return Reply::Ignored;
         };
-        let Some((output, _)) = output else {
+        let Some((output, _)) = split.output else {
             self.finish(attempt, task);
             return Reply::Gone;
         };
-        self.note(attempt, map, output);
+        self.attempts.note_fetch(attempt, map, output);
         Reply::Region { output }
-    }
-
-    /// Whether the attempt has fetched from every split.
-    fn has_all(&self, attempt: u32) -> bool
-        ensures { (at : Attempt) → live_attempt self.now attempt ≡ Some at
-            → result ≡ list_all is_some at.fetched }
-    {
-        match self.attempts.as_slice().get(attempt as usize) {
-            Some(attempt) => all_some(attempt.fetched()),
-            None => false,
-        }
     }
 
     /// A reduce attempt is done.
@@ -99,13 +74,14 @@ impl MasterState {
         ensures { (sh : Shape)
             → outcome sh self.old (Event.ReduceDone attempt output) ≡ replies result self.new }
     {
-        let Some(task) = self.live_task(attempt) else {
+        let Some(at) = self.live(attempt) else {
             return Reply::Ignored;
         };
+        let task = at.task();
         let Task::Reduce(partition) = task else {
             return Reply::Ignored;
         };
-        let wanted = !self.is_complete(Task::Reduce(partition)) && self.has_all(attempt);
+        let wanted = !self.is_complete(task) && at.has_all();
         if !wanted {
             self.finish(attempt, task);
             return Reply::Ignored;
@@ -115,13 +91,9 @@ impl MasterState {
     }
 
     /// Whether the split has no output, and accepts one without the attempt's left-out records.
-    fn takes(&self, attempt: u32, split: u32) -> bool
-        ensures { (at : Attempt) → live_attempt self.now attempt ≡ Some at
-            → result ≡ takes at.skips (slice_get self.now.splits split) }
+    fn takes(&self, attempt: &Attempt, split: u32) -> bool
+        ensures { result ≡ takes attempt.now.skips (slice_get self.now.splits split) }
     {
-        let Some(attempt) = self.attempts.as_slice().get(attempt as usize) else {
-            return false;
-        };
         match self.splits.as_slice().get(split as usize) {
             Some(split) => split.output.is_none()
                 && (!split.fixed || split.skips.is_same(attempt.skips())),
@@ -143,13 +115,14 @@ impl MasterState {
         ensures { (sh : Shape)
             → outcome sh self.old (Event.MapDone attempt output) ≡ replies result self.new }
     {
-        let Some(task) = self.live_task(attempt) else {
+        let Some(at) = self.live(attempt) else {
             return Reply::Ignored;
         };
+        let task = at.task();
         let Task::Map(split) = task else {
             return Reply::Ignored;
         };
-        if !self.takes(attempt, split) {
+        if !self.takes(at, split) {
             self.finish(attempt, task);
             return Reply::Ignored;
         }
@@ -157,42 +130,26 @@ impl MasterState {
         Reply::Accepted
     }
 
-    fn leave(&mut self, worker: u32)
-        ensures { self.new ≡ lose worker self.old }
-    {
-        put(self.lost.as_mut_slice(), worker, true);
-        self.attempts.lose(worker);
-        self.splits.leave(worker);
-        self.next_map = 0;
-        self.next_part = 0;
-    }
-
+    /// A worker is lost. What it committed stays.
     pub(crate) fn lose(&mut self, worker: u32) -> Reply
         ensures { (sh : Shape) → outcome sh self.old (Event.Lose worker) ≡ replies result self.new }
     {
         if !self.is_active(worker) {
             return Reply::Ignored;
         }
-        self.leave(worker);
+        put(self.lost.as_mut_slice(), worker, true);
+        self.attempts.lose(worker);
+        self.splits.leave(worker);
+        self.next_map = 0;
+        self.next_part = 0;
         Reply::Accepted
-    }
-
-    /// The output of the attempt's latest fetch from the split.
-    fn latest(&self, attempt: u32, map: u32) -> Option<u64>
-        ensures { (at : Attempt) → live_attempt self.now attempt ≡ Some at
-            → result ≡ latest_in (slice_get at.fetched map) }
-    {
-        match self.attempts.as_slice().get(attempt as usize) {
-            Some(attempt) => attempt.latest(map),
-            None => None,
-        }
     }
 
     /// Removes the split's output, where it has this number, and moves the cursor back.
     fn empty(&mut self, map: u32, output: u64)
         ensures { self.new ≡ damage map output self.old }
     {
-        self.next_map = map_cursor(self.next_map, Task::Map(map));
+        self.next_map = self.next_map.min(map);
         self.splits.damage(map, output);
     }
 
@@ -200,13 +157,14 @@ impl MasterState {
     pub(crate) fn damaged(&mut self, attempt: u32, map: u32) -> Reply
         ensures { (sh : Shape) → outcome sh self.old (Event.Damaged attempt map) ≡ replies result self.new }
     {
-        let Some(task) = self.live_task(attempt) else {
+        let Some(at) = self.live(attempt) else {
             return Reply::Ignored;
         };
+        let task = at.task();
         let Task::Reduce(_) = task else {
             return Reply::Ignored;
         };
-        let Some(output) = self.latest(attempt, map) else {
+        let Some(output) = at.latest(map) else {
             self.finish(attempt, task);
             return Reply::Ignored;
         };
@@ -215,31 +173,18 @@ impl MasterState {
         Reply::Accepted
     }
 
-    fn has_failed(&self, split: u32, number: u32) -> bool
-        ensures { result ≡ failed_before self.now split number }
-    {
-        match self.failures.as_slice().get(split as usize) {
-            Some(failed) => failed.has(number),
-            None => false,
-        }
-    }
-
     /// Whether the record failed before, and may yet be left out.
     fn may_leave_out(&self, split: u32, number: u32) -> bool
         ensures { result ≡ (failed_before self.now split number && may_leave_out number
             (slice_get self.now.splits split)) }
     {
-        let before = self.has_failed(split, number);
-        match self.splits.as_slice().get(split as usize) {
-            Some(split) => before && (!split.fixed && !split.skips.has(number)),
-            None => false,
-        }
-    }
-
-    fn has_room(&self, limit: u32) -> bool
-        ensures { result ≡ nat_lt (left_out self.now) limit }
-    {
-        self.splits.has_room(limit)
+        let Some(failed) = self.failures.as_slice().get(split as usize) else {
+            return false;
+        };
+        let Some(split) = self.splits.as_slice().get(split as usize) else {
+            return false;
+        };
+        failed.has(number) && (!split.fixed && !split.skips.has(number))
     }
 
     /// Records a failure and ends its attempt. Where `adds` holds, the record is left out.
@@ -260,7 +205,7 @@ impl MasterState {
         let longer = longer_list(self.failures.as_slice(), split, number)?;
         self.splits.leave_out(split, number, adds)?;
         put_longer(self.failures.as_mut_slice(), split, number, longer);
-        self.next_map = map_cursor(self.next_map, Task::Map(split));
+        self.next_map = self.next_map.min(split);
         self.attempts.end(attempt);
         Ok(())
     }
@@ -277,37 +222,15 @@ impl MasterState {
             ≡ record { reply = r.0; state = self.new; over = r.1 }) }
         ensures err { OnErr result (self.new ≡ self.old) }
     {
-        let Some(task) = self.live_task(attempt) else {
+        let Some(at) = self.live(attempt) else {
             return Ok((Reply::Ignored, false));
         };
-        let Task::Map(split) = task else {
+        let Task::Map(split) = at.task() else {
             return Ok((Reply::Ignored, false));
         };
         let again = self.may_leave_out(split, number);
-        let room = again && self.has_room(shape.limits.skips);
+        let room = again && self.splits.has_room(shape.limits.skips);
         self.note_failure(attempt, split, number, room)?;
         Ok((Reply::Accepted, again && !room))
-    }
-}
-
-/// The cursor of the map tasks, moved back to the task where it is past it.
-fn map_cursor(next: u32, task: Task) -> u32
-    ensures back { result ≤ next }
-    ensures here { (s : ℕ) → task ≡ Task.Map s → result ≤ s }
-{
-    match task {
-        Task::Map(split) => next.min(split),
-        Task::Reduce(_) => next,
-    }
-}
-
-/// The cursor of the reduce tasks, moved back to the task where it is past it.
-fn part_cursor(next: u32, task: Task) -> u32
-    ensures back { result ≤ next }
-    ensures here { (p : ℕ) → task ≡ Task.Reduce p → result ≤ p }
-{
-    match task {
-        Task::Map(_) => next,
-        Task::Reduce(partition) => next.min(partition),
     }
 }

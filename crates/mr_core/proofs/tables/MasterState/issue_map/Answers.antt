@@ -1,13 +1,17 @@
-use Rattle.std.proofs.Common.{◌<◌, length, ap, sym, ◌∙◌, subst}
+use Rattle.std.proofs.Common.{ℕ, ◌<◌, List, [], true, length, ap, sym, ◌∙◌, subst}
 use Rattle.std.proofs.lemmas.Result.{IfOk-from_err, err_from_is_err_and}
 use Rattle.mr_core.specs.Index.{IsBelow}
-use Rattle.mr_core.specs.Master.{Attempt, has_live}
+use Rattle.mr_core.specs.Master.{State, Attempt, has_live}
+use Rattle.mr_core.specs.Looks.{split_set}
 use Rattle.mr_core.proofs.Asks.{given_map, free_of_may, task_below}
 use Rattle.mr_core.specs.declared.event.Task.TheVariants.{Map as MapTask}
 use Rattle.mr_core.proofs.tables.MasterState.issue_map.Goals as goal
 
 pub returns-clause-ok : goal.returns-clause-ok
-returns-clause-ok c = given_map c.args.shape c.args.self.now c.args.worker c.issued-attempt.result c.args.split _ c.in_ok-issued.issued c.push.new.self c.issued-attempt.ensures c.requires.may (task_below c.args.shape c.args.self.now c.args.worker (MapTask c.args.split) c.requires.going c.requires.may) c.in_ok-skips.ensures c.in_ok-issued.ensures c.in_ok-push.ensures.ok
+returns-clause-ok c =
+    let number = ap length c.as_slice.ensures ∙ ap (λ (v : State). length v.attempts) c.self.view_is in
+    let same = c.in_ok-issued.ensures ∙ ap (λ (k : List ℕ). let at : Attempt = record { worker = c.args.worker; task = MapTask c.args.split; skips = k; fetched = []; live = true } in at) c.as_slice-3.ensures in
+    given_map c.args.shape c.args.self.now c.args.worker (length c.as_slice.result.now) c.args.split _ c.in_ok-issued.issued c.push.new.self number c.requires.may (task_below c.args.shape c.args.self.now c.args.worker (MapTask c.args.split) c.requires.going c.requires.may) (λ sp at. c.in_ok-skips.ensures ∙ c.set.ensures ∙ ap split_set at) same c.in_ok-push.ensures.ok
 
 pub push-requires-clause-live : goal.push-requires-clause-live
 push-requires-clause-live c = ap (λ (a : Attempt). a.live) c.in_ok-issued.ensures

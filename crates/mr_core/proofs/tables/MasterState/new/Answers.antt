@@ -7,5 +7,11 @@ returns-in_err-lost c = IfOk-from_err c.from_residual.result _ c.from_residual.e
 pub returns-in_err-attempts : goal.returns-in_err-attempts
 returns-in_err-attempts c = IfOk-from_err c.from_residual-in_err-attempts.result _ c.from_residual-in_err-attempts.ensures.0
 
-pub returns-in_err-splits : goal.returns-in_err-splits
-returns-in_err-splits c = IfOk-from_err c.from_residual-in_err-splits.result _ c.from_residual-in_err-splits.ensures.0
+pub returns-in_err-new : goal.returns-in_err-new
+returns-in_err-new c = IfOk-from_err c.from_residual-in_err-new.result _ c.from_residual-in_err-new.ensures.0
+
+pub returns-in_err-new-2 : goal.returns-in_err-new-2
+returns-in_err-new-2 c = IfOk-from_err c.from_residual-in_err-new-2.result _ c.from_residual-in_err-new-2.ensures.0
+
+pub returns-in_err-none_failed : goal.returns-in_err-none_failed
+returns-in_err-none_failed c = IfOk-from_err c.from_residual-in_err-none_failed.result _ c.from_residual-in_err-none_failed.ensures.0

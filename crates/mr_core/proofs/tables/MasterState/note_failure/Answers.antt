@@ -1,4 +1,4 @@
-use Rattle.std.proofs.Common.{◌≡◌, Some, slice_get, refl, ap, ◌∙◌}
+use Rattle.std.proofs.Common.{◌≡◌, Some, slice_get, refl, ap, ◌∙◌, arith}
 use Rattle.std.proofs.lemmas.Result.{err_from_is_err_and}
 use Rattle.mr_core.specs.declared.entries.Split.{Split}
 use Rattle.mr_core.specs.Master.{State, with_number}
@@ -10,7 +10,7 @@ pub invariant_of-self-2 : goal.invariant_of-self-2
 invariant_of-self-2 c =
     let st : State = record { lost = c.self.inside.lost.items; splits = c.self.inside.splits; committed = c.self.inside.committed; attempts = c.self.inside.attempts.items; failures = c.self.inside.failures.items; end = c.self.inside.end } in
     let at : slice_get c.self.inside.attempts.items c.args.attempt ≡ Some c.requires.0 = ap (λ (v : State). slice_get v.attempts c.args.attempt) c.self.view_is ∙ live_there _ c.requires.0 c.requires.1 in
-    tabled_failed st c.self.inside.attempts c.end.new.self c.self.inside.next_map c.self.inside.next_part c.self.invariant c.args.attempt c.requires.0 c.map_cursor-self-inside.result c.leave_out.new.self _ c.args.adds (λ (sp : Split). record sp { skips = with_number c.args.number sp.skips }) c.args.split c.end.ensures.ended at c.requires.2 c.map_cursor-self-inside.ensures.back (c.map_cursor-self-inside.ensures.here c.args.split refl) (λ sp. refl) c.in_ok-leave_out.ensures.noted c.in_ok-leave_out.ensures.added
+    tabled_failed st c.self.inside.attempts c.end.new.self c.self.inside.next_map c.self.inside.next_part c.self.invariant c.args.attempt c.requires.0 c.min-self-inside.result c.leave_out.new.self _ c.args.adds (λ (sp : Split). record sp { skips = with_number c.args.number sp.skips }) c.args.split c.end.ensures.ended at c.requires.2 (omega (arith, c.min-self-inside.ensures)) (omega (arith, c.min-self-inside.ensures)) (λ sp. refl) c.in_ok-leave_out.ensures.noted c.in_ok-leave_out.ensures.added
 
 pub returns-in_err-longer-clause-noted : goal.returns-in_err-longer-clause-noted
 returns-in_err-longer-clause-noted c =

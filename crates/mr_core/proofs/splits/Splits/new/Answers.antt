@@ -2,7 +2,7 @@ use Rattle.std.proofs.Common.{ℕ, List, [], ◌∷◌, ◌++◌, None, false, r
 use Rattle.std.proofs.lemmas.List.{replicate_more}
 use Rattle.std.proofs.lemmas.Result.{IfOk-from_err}
 use Rattle.mr_core.specs.declared.entries.Split.{Split}
-use Rattle.mr_core.proofs.entries.new_splits.Goals as goal
+use Rattle.mr_core.proofs.splits.Splits.new.Goals as goal
 
 abbrev none : Split
 none = record { skips = []; fixed = false; output = None }
@@ -10,8 +10,8 @@ none = record { skips = []; fixed = false; output = None }
 pub loop-i-preserved : goal.loop-i-preserved
 loop-i-preserved c =
     c.in_ok-push.ensures.items
-    ∙ ap (λ (l : List Split). l ++ c.new_split.result ∷ []) c.loop-i.invariant
-    ∙ ap (λ (sp : Split). replicate c.loop-i._i none ++ sp ∷ []) c.new_split.ensures
+    ∙ ap (λ (l : List Split). l ++ record { skips = c.none.result; fixed = false; output = None } ∷ []) c.loop-i.invariant
+    ∙ ap (λ (k : List ℕ). replicate c.loop-i._i none ++ record { skips = k; fixed = false; output = None } ∷ []) c.none.ensures
     ∙ replicate_more c.loop-i._i none
 
 pub returns-in_err-push : goal.returns-in_err-push

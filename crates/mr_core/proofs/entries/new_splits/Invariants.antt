@@ -1,5 +1,0 @@
-use Rattle.std.proofs.Common.{◌≡◌, replicate, [], None, false}
-use Rattle.mr_core.proofs.entries.new_splits.Given as goal
-
-abbrev pub invariant-loop-i : goal.invariant-loop-i
-invariant-loop-i l = l.splits.items ≡ replicate l._i (record { skips = []; fixed = false; output = None })

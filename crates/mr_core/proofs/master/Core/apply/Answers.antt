@@ -1,9 +1,0 @@
-use Rattle.std.proofs.Common.{subst}
-use Rattle.mr_core.specs.Core.{CoreView, InLimits}
-use Rattle.mr_core.proofs.Promised.{step_goes_on}
-use Rattle.mr_core.proofs.master.Core.apply.Goals as goal
-
-pub returns-clause-run : goal.returns-clause-run
-returns-clause-run c =
-    step_goes_on c.args.self.now c.args.event c.in_ok-reply.reply c.step.new.self
-    (subst (λ (v : CoreView). InLimits v.shape) c.self.view_is c.self.invariant.0) c.in_ok-reply.ensures.ok
