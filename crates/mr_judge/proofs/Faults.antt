@@ -70,11 +70,11 @@ with_suc st t (suc e) h = refl
 
 -- ---- an entry within a group
 
-group_later : (s : Subject) (p : ℕ) (st : Reached) (n : ℕ) → 1 ≤ n → group_tests s p st n ≡ []
+pub group_later : (s : Subject) (p : ℕ) (st : Reached) (n : ℕ) → 1 ≤ n → group_tests s p st n ≡ []
 group_later s p st zero h = absurd (omega arith)
 group_later s p st (suc n) h = refl
 
-behind_later : (s : Subject) (st : Reached) (n : ℕ) → 1 ≤ n → behind_group s st n ≡ st
+pub behind_later : (s : Subject) (st : Reached) (n : ℕ) → 1 ≤ n → behind_group s st n ≡ st
 behind_later s st zero h = absurd (omega arith)
 behind_later s st (suc n) h = refl
 

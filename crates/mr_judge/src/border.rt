@@ -19,17 +19,6 @@ pub struct Border<'a> {
     pub from: u64,
 }
 
-fn is_same_key(one: Option<&[u8]>, other: Option<&[u8]>) -> bool
-    ensures { IsTrue result
-        ↔ (option_map (λ r. r.now) one.entry ≡ option_map (λ r. r.now) other.entry) }
-{
-    match (one, other) {
-        (None, None) => true,
-        (Some(a), Some(b)) => a == b,
-        _ => false,
-    }
-}
-
 impl<'a> Border<'a> {
     /// The border before partition `next`.
     pub fn before(next: u64) -> Border<'a>
@@ -51,7 +40,7 @@ impl<'a> Border<'a> {
             && self.groups == other.groups
             && self.group == other.group
             && self.from == other.from
-            && is_same_key(self.key_before, other.key_before)
+            && self.key_before == other.key_before
     }
 }
 

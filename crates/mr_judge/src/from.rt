@@ -67,20 +67,8 @@ fn judge_lent<R: CountedRead, C: CountedRead>(
     judge_all(computation, &mut outputs, &mut walker, &mut work, progress)
 }
 
-/// The fault of a stop that no failed read caused. An output or a certificate of 2^63 bytes or more
-/// counts as too long for the machine's memory.
-fn fault_of(stop: JudgeError) -> No
-    requires { ReportsNoRead stop }
-    ensures verdict { (o : RequestSpec) (files outs : List (List ℕ)) (bytes : List ℕ)
-        → IsVerdict o files outs bytes (Err stop) → IsVerdictFrom o files outs bytes (Err result) }
-    ensures device { (outs : List ℕ) (cert : ℕ) → IsDevice outs outs cert cert (Err result) }
-{
-    match stop {
-        JudgeError::Fault(fault) => fault,
-        _ => No::OutOfMemory,
-    }
-}
-
+/// The answer where no read failed. An output or a certificate of 2^63 bytes or more counts as too
+/// long for the machine's memory.
 fn answer_of(answer: Result<Yes, JudgeError>) -> Result<Yes, No>
     requires { IfErr answer ReportsNoRead }
     ensures verdict { (o : RequestSpec) (files outs : List (List ℕ)) (bytes : List ℕ)
@@ -89,7 +77,8 @@ fn answer_of(answer: Result<Yes, JudgeError>) -> Result<Yes, No>
 {
     match answer {
         Ok(yes) => Ok(yes),
-        Err(stop) => Err(fault_of(stop)),
+        Err(JudgeError::Fault(fault)) => Err(fault),
+        Err(_) => Err(No::OutOfMemory),
     }
 }
 

@@ -3,7 +3,6 @@ ghost use Rattle.std.specs.Prelude.{◌≡◌, ◌⊎◌, ℕ, List, ◌<◌, �
 ghost use Rattle.mr_input.specs.Files.{contents, split_total};
 ghost use Rattle.mr_certform.specs.declared.grammar_state.Item.{Item as Read};
 ghost use Rattle.mr_certform.specs.declared.grammar_state.GrammarState.TheVariants.{AtMagic};
-ghost use Rattle.mr_certform.specs.declared.grammar_state.GrammarState.TheVariants.{AtSkips};
 ghost use Rattle.mr_certform.specs.Grammar.{AreBytes};
 ghost use Rattle.mr_certform.specs.Walking.{items_left, halt};
 ghost use Rattle.mr_certform.specs.Spelling.{items_of, stop};
@@ -15,7 +14,7 @@ ghost use Rattle.mr_judge.specs.Metered.{IsBounded, IsExact, MapsExactly, MapsOn
 ghost use Rattle.mr_verdict.specs.Steps.{case_at};
 ghost use Rattle.mr_judge.specs.Kinds.{InKind};
 ghost use Rattle.mr_verdict.specs.Items.{CanCome, Each};
-ghost use Rattle.mr_judge.specs.Outputs.{CanCome as CanComeAhead, Fits, Through, RestJudged};
+ghost use Rattle.mr_judge.specs.Outputs.{CanCome as CanComeAhead, Fits, Through};
 ghost use Rattle.mr_judge.specs.Outputs.{AllJudged, HaltsItems, HaltsOutputs, begins};
 
 use crate::border::Border;
@@ -66,54 +65,6 @@ pub fn plan_of<'a>(
     Plan::new_fitting(alloc, input, request.split_size())
 }
 
-/// Judges what comes after the header.
-fn check_rest<I: ItemSource, O: Outputs>(
-    computation: &Computation<'_>,
-    outputs: &mut O,
-    walker: &mut I,
-    work: &mut Work,
-    watch: &dyn Progress,
-) -> Result<Yes, JudgeError>
-    requires sound { I.sound walker.old }
-    requires given { CanCome (I.gives walker.old) }
-    requires few { I.most walker.old < 2 ^ 63 }
-    requires order { (is : List Read) (at : ℕ) → I.gives walker.old is at
-        → InKind (AtSkips computation.now.request.now.parts) is }
-    requires count { (work.old.meter.lookups ≤ 2 ^ 63) × (work.old.meter.mapped ≤ 2 ^ 63) }
-    requires outputs { CanComeAhead (O.gives outputs.old) }
-    requires ahead { Fits (O.gives outputs.old) start }
-    requires place { O.place outputs.old ≡ 0 }
-    ensures judged { Through (O.gives outputs.old) start
-        (RestJudged (I.gives walker.old) computation.now.request.now computation.now.input.now
-        work.old.meter.lookups work.new.meter.lookups result) }
-    ensures mapped { MapsOnce (cut_by computation.now.request.now computation.now.input.now)
-        work.old.meter work.new.meter }
-    ensures exact { MapsExactly (cut_by computation.now.request.now computation.now.input.now)
-        work.old.meter work.new.meter result }
-    ensures stops { HaltsItems I.steady (I.failed walker.old) (I.failed walker.new) result }
-    ensures halts { HaltsOutputs O.steady (O.failed outputs.old) (O.failed outputs.new) result }
-{
-    let request = computation.request;
-    let listed = expect_count(walker, request.max_skips())?;
-    let plan = plan_of(work.alloc, request, computation.input)?;
-    let skips = read_skips(work.alloc, walker, &plan, listed)?;
-    let pairs = {
-        let kept = plan.without(work.alloc, &skips)?;
-        // A plan has far fewer records than a u64 counts.
-        let _few = plan.count();
-        let meter = &mut work.meter;
-        let index = EmissionIndex::of_watched(work.alloc, &kept, request.job(), meter, watch)?;
-        let walk = PlainWalk {
-            request,
-            index: &index,
-            border: Border::before(0),
-            named: 0,
-        };
-        check_parts(&walk, outputs, walker, work, watch)?
-    };
-    Ok(Yes { skips, pairs })
-}
-
 /// A walker at the front of a certificate's bytes.
 pub fn walk(certificate: &[u8]) -> Walker<'_>
     ensures items { items_left result ≡ items_of certificate.entry.now }
@@ -150,8 +101,26 @@ pub(crate) fn judge_all<I: ItemSource, O: Outputs>(
     ensures stops { HaltsItems I.steady (I.failed walker.old) (I.failed walker.new) result }
     ensures halts { HaltsOutputs O.steady (O.failed outputs.old) (O.failed outputs.new) result }
 {
-    expect_header(walker, computation.request, computation.input)?;
-    check_rest(computation, outputs, walker, work, watch)
+    let request = computation.request;
+    expect_header(walker, request, computation.input)?;
+    let listed = expect_count(walker, request.max_skips())?;
+    let plan = plan_of(work.alloc, request, computation.input)?;
+    let skips = read_skips(work.alloc, walker, &plan, listed)?;
+    let pairs = {
+        let kept = plan.without(work.alloc, &skips)?;
+        // A plan has far fewer records than a u64 counts.
+        let _few = plan.count();
+        let meter = &mut work.meter;
+        let index = EmissionIndex::of_watched(work.alloc, &kept, request.job(), meter, watch)?;
+        let walk = PlainWalk {
+            request,
+            index: &index,
+            border: Border::before(0),
+            named: 0,
+        };
+        check_parts(&walk, outputs, walker, work, watch)?
+    };
+    Ok(Yes { skips, pairs })
 }
 
 /// Judges a case, and adds to the meter what it looks up and maps.

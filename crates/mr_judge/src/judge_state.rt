@@ -2,10 +2,12 @@
 ghost use Rattle.std.specs.Prelude.{◌≡◌, ◌<◌, ◌≤◌, ◌+◌, ◌-◌, ◌^◌, ◌++◌, ◌∷◌, []};
 ghost use Rattle.std.specs.Prelude.{IfOk, IsTrue, MatchResult, OnOk, None, Some, true, length};
 ghost use Rattle.mr_verdict.specs.Verdict.{Subject as Judged};
+ghost use Rattle.std.specs.Ordering.{is_lt};
+ghost use Rattle.mr_bytes.specs.Order.{name_order};
 ghost use Rattle.mr_input.specs.Files.{nth_file};
 ghost use Rattle.mr_sequential.specs.Rules.{rules_of};
 ghost use Rattle.mr_certform.specs.declared.grammar_state.Item.TheVariants.{Entry};
-ghost use Rattle.mr_verdict.specs.Verdict.{first_tests, later_tests, order_tests};
+ghost use Rattle.mr_verdict.specs.Verdict.{first_tests, order_tests};
 ghost use Rattle.mr_verdict.specs.Verdict.{with_entry, group_tests, behind_group, entry_tests};
 ghost use Rattle.mr_verdict.specs.Verdict.{after_entry, end_tests};
 ghost use Rattle.mr_verdict.specs.Steps.{Answers, HasRoom, opens};
@@ -14,12 +16,12 @@ ghost use Rattle.mr_judge.specs.Borders.{at_border, behind_entries, between};
 ghost use Rattle.mr_judge.specs.Outputs.{CanCome, Tested, Halts};
 
 use crate::border::{Border, FoundItem};
-use crate::entry_tests::{EntryPlace, is_name_less, test_end, test_first, test_later};
 use crate::lines::test_group;
-use crate::outputs::Outputs;
-use mr_bytes::{Name, Value, ValueColumn};
+use crate::outputs::{Outputs, test_end};
+use mr_bytes::{Name, Value, ValueColumn, compare_keys, compare_names};
 use mr_certform::Item;
 use mr_jobs::Request;
+use mr_partition::partition_by;
 use mr_verdict::{JudgeError, No};
 use std::alloc::{AllocError, Global};
 use std::marker::Model;
@@ -122,84 +124,6 @@ impl<'a> JudgeState<'a> {
         self.next.saturating_sub(1)
     }
 
-    /// The place of the next entry.
-    fn place(&self) -> EntryPlace
-        ensures { result ≡ record {
-          partition = self.now.next - 1;
-          group = self.now.group;
-          entry = self.now.entry;
-        } }
-    {
-        EntryPlace {
-            partition: self.partition(),
-            group: self.group,
-            entry: self.entry,
-        }
-    }
-
-    fn begin_partition(&mut self, groups: u64)
-        requires { HasRoom self.old }
-        ensures { self.new ≡ record self.old {
-          next = self.old.next
-              + 1;
-          groups = groups;
-          group = 0;
-          key_before = None;
-          from = 0;
-        } }
-    {
-        self.next += 1;
-        self.groups = groups;
-        self.group = 0;
-        self.key_before = None;
-        self.from = 0;
-    }
-
-    fn begin_group(&mut self, entries: u64)
-        ensures { self.new ≡ record self.old { entries = entries; entry = 0 } }
-    {
-        self.entries = entries;
-        self.entry = 0;
-    }
-
-    fn close_group(&mut self, from: u64)
-        requires { self.old.group + 1 < 2 ^ 64 }
-        ensures { self.new
-            ≡ record self.old {
-              groups = self.old.groups - 1;
-              group = self.old.group + 1;
-              key_before = Some self.old.key;
-              from = from;
-            } }
-    {
-        self.groups = self.groups.saturating_sub(1);
-        self.group += 1;
-        self.key_before = Some(self.key);
-        self.from = from;
-    }
-
-    fn take_first(&mut self, name: Name, key: &'a [u8], value: Value) -> Result<(), AllocError>
-        requires { HasRoom self.old }
-        ensures { OnOk result (self.new
-            ≡ record self.old {
-              entry = 1;
-              entries = self.old.entries - 1;
-              key = key.entry.now;
-              before = name;
-              values = value ∷ [];
-              named = self.old.named + 1;
-            }) }
-    {
-        self.values.clear();
-        self.values.push(value)?;
-        self.entry = 1;
-        self.entries = self.entries.saturating_sub(1);
-        self.key = key;
-        self.before = name;
-        self.named += 1;
-        Ok(())
-    }
-
     #[inline(always)]
     fn take_later(&mut self, name: Name, value: Value) -> Result<(), AllocError>
         requires { HasRoom self.old }
@@ -244,10 +168,14 @@ impl<'a> JudgeState<'a> {
     {
         test_group(outputs, request, p, self.key, &self.values, &mut self.text)?;
         test_end(outputs, p, self.groups.saturating_sub(1))?;
-        self.close_group(outputs.place());
+        self.groups = self.groups.saturating_sub(1);
+        self.group += 1;
+        self.key_before = Some(self.key);
+        self.from = outputs.place();
         Ok(())
     }
 
+    /// Takes a group's first entry: its key is of this partition, and past that of the group before.
     #[inline(never)]
     fn first_entry(
         &mut self,
@@ -263,27 +191,31 @@ impl<'a> JudgeState<'a> {
             ≡ with_entry self.old (record { key = key.entry.now; value = value; name = name }) 0))
             (λ e. Answers fs e) }
     {
-        test_first(request, self.partition(), self.group, self.key_before, key)?;
-        self.take_first(name, key, value)?;
-        Ok(())
-    }
-
-    #[inline(always)]
-    fn later_entry(&mut self, name: Name, key: &[u8], value: Value) -> Result<(), No>
-        requires { HasRoom self.old }
-        ensures { let fs = later_tests (self.old.next - 1) self.old.group self.old.entry
-            self.old.before name self.old.key key.now in
-            MatchResult result (λ _. (fs ≡ []) × (self.new
-            ≡ record self.old {
-              entry = self.old.entry + 1;
-              entries = self.old.entries - 1;
-              before = name;
-              values = self.old.values ++ value ∷ [];
-              named = self.old.named + 1;
-            })) (λ e. Answers fs e) }
-    {
-        test_later(self.place(), self.before, name, self.key, key)?;
-        self.take_later(name, value)?;
+        let partition = self.partition();
+        let group = self.group;
+        if u64::from(partition_by(request.by(), key, request.parts())) != partition {
+            return Err(No::WrongPartition {
+                partition,
+                group,
+                entry: 0,
+            });
+        }
+        if let Some(before) = self.key_before {
+            if compare_keys(before, key).is_ge() {
+                return Err(No::KeyOrder {
+                    partition,
+                    group,
+                    entry: 0,
+                });
+            }
+        }
+        self.values.clear();
+        self.values.push(value)?;
+        self.entry = 1;
+        self.entries = self.entries.saturating_sub(1);
+        self.key = key;
+        self.before = name;
+        self.named += 1;
         Ok(())
     }
 
@@ -307,13 +239,16 @@ impl<'a> JudgeState<'a> {
             × (self.new ≡ after_entry s self.old (Some
             (record { key = self.old.key; value = value; name = name })))) }
     {
-        if !is_name_less(self.before, name) {
+        let is_past = is_name_less(self.before, name);
+        if !is_past {
             return Ok(false);
         }
         self.take_later(name, value)?;
         Ok(true)
     }
 
+    /// Takes an entry by its order. A later one's name is past the one before, and its key is the
+    /// group's.
     #[inline(always)]
     #[tactic(auto, using(crate::proofs::Faults::order_zero, crate::proofs::Faults::with_zero, crate::proofs::Faults::order_suc, crate::proofs::Faults::with_suc))]
     fn order_entry(
@@ -332,66 +267,27 @@ impl<'a> JudgeState<'a> {
             (λ e. Answers fs e) }
     {
         if self.entry == 0 {
-            self.first_entry(request, name, key, value)
-        } else {
-            self.later_entry(name, key, value)
+            return self.first_entry(request, name, key, value);
         }
-    }
-
-    /// Ends the group where no entry is left.
-    #[inline(always)]
-    fn end_entry<O: Outputs>(
-        &mut self,
-        request: &Request,
-        outputs: &mut O,
-        p: u64,
-    ) -> Result<(), JudgeError>
-        requires room { (self.old.group + 1 < 2 ^ 64) × (length self.old.values < 2 ^ 64) }
-        requires here { p ≡ self.old.next - 1 }
-        requires begun { O.begun outputs.old }
-        requires some { CanCome (O.gives outputs.old) }
-        requires place { O.place outputs.old ≡ self.old.from }
-        ensures tested { Tested (O.gives outputs.old) (O.gives outputs.new) self.old self.new
-            (λ outs. group_tests (row_subject request.now outs) p self.old self.old.entries)
-            (λ outs. behind_group (row_subject request.now outs) self.old self.old.entries) result }
-        ensures some { CanCome (O.gives outputs.new) }
-        ensures place { OnOk result (O.place outputs.new ≡ self.new.from) }
-        ensures begun { O.begun outputs.new }
-        ensures halts { Halts O.steady (O.failed outputs.old) (O.failed outputs.new) result }
-    {
-        if self.entries == 0 {
-            self.end_group(request, outputs, p)
-        } else {
-            Ok(())
+        let partition = self.partition();
+        let group = self.group;
+        let entry = self.entry;
+        if !is_name_less(self.before, name) {
+            return Err(No::EntryOrder {
+                partition,
+                group,
+                entry,
+            });
         }
-    }
-
-    #[inline(always)]
-    fn found_entry<O: Outputs>(
-        &mut self,
-        request: &Request,
-        outputs: &mut O,
-        name: Name,
-        found: (&'a [u8], Value),
-    ) -> Result<(), JudgeError>
-        requires room { HasRoom self.old }
-        requires begun { O.begun outputs.old }
-        requires some { CanCome (O.gives outputs.old) }
-        requires place { O.place outputs.old ≡ self.old.from }
-        ensures tested { let t = Some
-            (record { key = found.entry.0.now; value = found.entry.1; name = name }) in
-            Tested (O.gives outputs.old) (O.gives outputs.new) self.old self.new
-            (λ outs. entry_tests (row_subject request.now outs) (self.old.next - 1) self.old name t)
-            (λ outs. after_entry (row_subject request.now outs) self.old t) result }
-        ensures some { CanCome (O.gives outputs.new) }
-        ensures place { OnOk result (O.place outputs.new ≡ self.new.from) }
-        ensures begun { O.begun outputs.new }
-        ensures halts { Halts O.steady (O.failed outputs.old) (O.failed outputs.new) result }
-    {
-        let p = self.partition();
-        let (key, value) = found;
-        self.order_entry(request, name, key, value)?;
-        self.end_entry(request, outputs, p)
+        if key != self.key {
+            return Err(No::KeyDiffers {
+                partition,
+                group,
+                entry,
+            });
+        }
+        self.take_later(name, value)?;
+        Ok(())
     }
 
     /// Tests an entry, given its row.
@@ -416,14 +312,19 @@ impl<'a> JudgeState<'a> {
         ensures begun { O.begun outputs.new }
         ensures halts { Halts O.steady (O.failed outputs.old) (O.failed outputs.new) result }
     {
-        match row.found {
-            None => Err(JudgeError::Fault(No::NoSuchPair {
-                partition: self.partition(),
+        let partition = self.partition();
+        let Some((key, value)) = row.found else {
+            return Err(JudgeError::Fault(No::NoSuchPair {
+                partition,
                 group: self.group,
                 entry: self.entry,
-            })),
-            Some(pair) => self.found_entry(request, outputs, name, pair),
+            }));
+        };
+        self.order_entry(request, name, key, value)?;
+        if self.entries == 0 {
+            return self.end_group(request, outputs, partition);
         }
+        Ok(())
     }
 
     /// Begins the next partition, and opens its output.
@@ -446,7 +347,11 @@ impl<'a> JudgeState<'a> {
     {
         outputs.open_next();
         test_end(outputs, self.next, groups)?;
-        self.begin_partition(groups);
+        self.next += 1;
+        self.groups = groups;
+        self.group = 0;
+        self.key_before = None;
+        self.from = 0;
         Ok(())
     }
 
@@ -475,11 +380,18 @@ impl<'a> JudgeState<'a> {
         match row.item {
             Item::Groups(groups) => self.open_partition(outputs, u64::from(groups)),
             Item::Entries(entries) => {
-                self.begin_group(u64::from(entries));
+                self.entries = u64::from(entries);
+                self.entry = 0;
                 Ok(())
             }
             Item::Entry(name) => self.entry(request, outputs, name, row),
             _ => Ok(()),
         }
     }
+}
+
+fn is_name_less(before: Name, name: Name) -> bool
+    ensures { result ≡ is_lt (name_order before name) }
+{
+    compare_names(before, name).is_lt()
 }

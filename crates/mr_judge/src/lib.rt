@@ -3,7 +3,6 @@
 #![tactic(auto)]
 
 mod border;
-mod entry_tests;
 mod from;
 mod judge;
 mod judge_state;
@@ -14,10 +13,10 @@ mod readers;
 mod remainder;
 
 pub use border::{Border, FoundItem};
-pub use entry_tests::test_named;
 pub use from::{check_from, judge_readers};
 pub use judge::{check_metered, judge_plainly, plan_of, walk};
 pub use judge_state::JudgeState;
 pub use outputs::{MemoryOutputs, OutputError, Outputs};
+pub use parts::test_named;
 pub use readers::ByRef;
 pub use remainder::{Remainder, judge_remainder};

@@ -1,11 +1,13 @@
 //! The outputs under judgement, one after another: at hand, or from readers.
 ghost use Rattle.std.specs.Prelude.{◌≡◌, ◌⊎◌, ◌≤◌, ◌<◌, ◌+◌, ◌-◌, ⊤, ◌^◌, ℕ, List, [], length};
-ghost use Rattle.std.specs.Prelude.{drop};
+ghost use Rattle.std.specs.Prelude.{drop, OnOk, nat_eq};
+ghost use Rattle.std.specs.List.{common_prefix_len};
 ghost use Rattle.mr_input.specs.Files.{contents, nth_file};
 ghost use Rattle.mr_judge.specs.Outputs.{CanCome, Opens, Compares, Ends, Lacks};
+ghost use Rattle.mr_judge.specs.Outputs.{EndTold, TextTold, Halts};
 
-use crate::entry_tests::agreement;
-use mr_verdict::JudgeError;
+use mr_lanes::first_difference;
+use mr_verdict::{JudgeError, No};
 
 /// Why an output can't be compared.
 #[derive(Clone, Copy, Debug, PartialEq, Eq, Drop)]
@@ -101,39 +103,22 @@ impl<'a> MemoryOutputs<'a> {
         ensures later { result.later.now ≡ drop next outputs.entry.now }
         ensures passed { result.passed ≡ from }
     {
+        let rest = match outputs.get(next.saturating_sub(1) as usize) {
+            Some(output) => behind(output.as_slice(), from),
+            None => b"",
+        };
         MemoryOutputs {
-            rest: behind(output_of(outputs, next.saturating_sub(1)), from),
-            later: outputs_from(outputs, next),
+            rest,
+            later: outputs.get(next as usize..).unwrap_or(&[]),
             passed: from,
         }
-    }
-}
-
-fn output_of<'a>(outputs: &'a [Vec<u8>], p: u64) -> &'a [u8]
-    ensures { result.now ≡ nth_file (contents outputs.entry.now) p }
-{
-    match outputs.get(p as usize) {
-        Some(output) => output.as_slice(),
-        None => b"",
-    }
-}
-
-fn outputs_from<'a>(outputs: &'a [Vec<u8>], p: u64) -> &'a [Vec<u8>]
-    ensures { result.now ≡ drop p outputs.entry.now }
-{
-    match outputs.get(p as usize..) {
-        Some(later) => later,
-        None => &[],
     }
 }
 
 pub(crate) fn behind<'a>(bytes: &'a [u8], count: u64) -> &'a [u8]
     ensures { result.now ≡ drop count bytes.entry.now }
 {
-    match bytes.get(count as usize..) {
-        Some(rest) => rest,
-        None => b"",
-    }
+    bytes.get(count as usize..).unwrap_or(b"")
 }
 
 impl<'a> Outputs for MemoryOutputs<'a> {
@@ -177,4 +162,51 @@ impl<'a> Outputs for MemoryOutputs<'a> {
     fn place(&self) -> u64 {
         self.passed
     }
+}
+
+/// The length of the common prefix.
+pub(crate) fn agreement(text: &[u8], output: &[u8]) -> u64
+    ensures { result ≡ common_prefix_len nat_eq text.now output.now }
+{
+    first_difference(text, output).unwrap_or(text.len()) as u64
+}
+
+/// Whether the output ends where its partition has no more groups.
+pub(crate) fn test_end<O: Outputs>(outputs: &mut O, p: u64, groups: u64) -> Result<(), JudgeError>
+    requires begun { O.begun outputs.old }
+    requires some { CanCome (O.gives outputs.old) }
+    ensures told { EndTold (O.gives outputs.old) (O.gives outputs.new) p groups
+        (O.place outputs.old) result }
+    ensures some { CanCome (O.gives outputs.new) }
+    ensures place { OnOk result (O.place outputs.new ≡ O.place outputs.old) }
+    ensures begun { O.begun outputs.new }
+    ensures halts { Halts O.steady (O.failed outputs.old) (O.failed outputs.new) result }
+{
+    if groups == 0 && !outputs.is_passed()? {
+        return Err(JudgeError::Fault(No::OutputDiffers {
+            partition: p,
+            at: outputs.place(),
+        }));
+    }
+    Ok(())
+}
+
+/// Whether `text` comes next in the open output.
+pub(crate) fn test_text<O: Outputs>(outputs: &mut O, p: u64, text: &[u8]) -> Result<(), JudgeError>
+    requires begun { O.begun outputs.old }
+    requires some { CanCome (O.gives outputs.old) }
+    ensures told { TextTold (O.gives outputs.old) (O.gives outputs.new) p
+        (O.place outputs.old) text.now result }
+    ensures some { CanCome (O.gives outputs.new) }
+    ensures place { OnOk result (O.place outputs.new ≡ O.place outputs.old + length text.now) }
+    ensures begun { O.begun outputs.new }
+    ensures halts { Halts O.steady (O.failed outputs.old) (O.failed outputs.new) result }
+{
+    if outputs.pass_text(text)? {
+        return Ok(());
+    }
+    Err(JudgeError::Fault(No::OutputDiffers {
+        partition: p,
+        at: outputs.place(),
+    }))
 }

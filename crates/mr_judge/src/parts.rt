@@ -5,9 +5,10 @@
 //! At the items' end each emitted pair must have been named. Nothing behind a fault is read or
 //! looked up. Invariant: the items so far have no fault, and each entry among them was looked up
 //! once. Each look-up waits for memory, so a yes is found faster by `mr_check`.
-ghost use Rattle.std.specs.Prelude.{◌≡◌, ◌⊎◌, ◌<◌, ◌≤◌, ◌+◌, ◌^◌, ◌∷◌, [], IfOk};
-ghost use Rattle.mr_verdict.specs.Verdict.{entries_in};
-ghost use Rattle.mr_verdict.specs.Steps.{subject_with};
+ghost use Rattle.std.specs.Prelude.{◌≡◌, ◌⊎◌, ◌<◌, ◌≤◌, ◌+◌, ◌^◌, ◌∷◌, [], IfOk, MatchResult};
+ghost use Rattle.std.specs.Prelude.{nat_le};
+ghost use Rattle.mr_verdict.specs.Verdict.{entries_in, passes};
+ghost use Rattle.mr_verdict.specs.Steps.{Answers, subject_with};
 ghost use Rattle.mr_verdict.specs.Items.{CanCome, Each};
 ghost use Rattle.mr_judge.specs.Borders.{IsSmall, begun_at, ground_of};
 ghost use Rattle.mr_judge.specs.Rows.{IsFound};
@@ -15,7 +16,6 @@ ghost use Rattle.mr_judge.specs.Outputs.{CanCome as CanComeAhead, Fits, Through,
 ghost use Rattle.mr_judge.specs.Outputs.{HaltsItems, HaltsOutputs, begins};
 
 use crate::border::{Border, FoundItem};
-use crate::entry_tests::test_named;
 use crate::judge::Work;
 use crate::judge_state::JudgeState;
 use crate::outputs::Outputs;
@@ -23,7 +23,7 @@ use mr_bytes::{Phase, Progress, Throttle};
 use mr_certform::Item;
 use mr_index::{EmissionIndex, Meter};
 use mr_jobs::Request;
-use mr_verdict::{ItemSource, JudgeError};
+use mr_verdict::{ItemSource, JudgeError, No};
 
 /// What a plain walk judges against: the request, and all that its job emits. And where it begins:
 /// at a border, after so many entries.
@@ -95,4 +95,15 @@ fn look_up<'a>(index: &'a EmissionIndex, item: Item, meter: &mut Meter) -> Found
         _ => None,
     };
     FoundItem { item, found }
+}
+
+/// Whether every emitted pair has a name.
+pub fn test_named(emitted: u64, named: u64) -> Result<(), No>
+    ensures { let fs = passes (nat_le emitted named)
+        (No.Unnamed emitted named) in MatchResult result (λ _. fs ≡ []) (λ e. Answers fs e) }
+{
+    if named < emitted {
+        return Err(No::Unnamed { emitted, named });
+    }
+    Ok(())
 }

@@ -8,8 +8,7 @@ ghost use Rattle.mr_judge.specs.Outputs.{Lacks, counted_at};
 ghost use Rattle.mr_store.specs.Devices.{Counts};
 ghost use Rattle.mr_judge.specs.Reading.{known_at};
 
-use crate::entry_tests::agreement;
-use crate::outputs::{OutputError, Outputs, behind};
+use crate::outputs::{OutputError, Outputs, agreement, behind};
 use mr_store::{CountedRead, Device, ReadBuffer};
 use std::alloc::{AllocError, Global};
 
@@ -23,45 +22,6 @@ pub(crate) struct ReaderOutputs<'a, R> {
     exhausted: bool,
     passed: u64,
     ghost within: { exhausted ≡ false → opened ≤ length readers.now },
-}
-
-/// Replaces the buffer's bytes by the next ones. Returns their number: 0 only at the end.
-fn read_anew<R: CountedRead>(buffer: &mut ReadBuffer, reader: &mut R) -> Result<usize, Device>
-    ensures read { MatchResult result
-        (λ n. (length buffer.new ≡ n)
-        × Consumes (R.remaining reader.old) (R.remaining reader.new) buffer.new
-        × (n ≡ 0 → IsAtEnd (R.remaining reader.new)))
-        (λ _. (buffer.new ≡ []) × Keeps (R.remaining reader.old) (R.remaining reader.new)) }
-    ensures count { Counts (R.failed reader.old) (R.failed reader.new) result }
-{
-    buffer.clear();
-    buffer.read_more(reader)
-}
-
-fn read_at<R: CountedRead>(
-    piece: &mut ReadBuffer,
-    readers: &mut [R],
-    number: usize,
-) -> Result<usize, Device>
-    requires within { number < length readers.old }
-    ensures length { length readers.new ≡ length readers.old }
-    ensures read { let was = known_at (map R.remaining readers.old) number in
-        let is = known_at (map R.remaining readers.new) number in MatchResult result
-        (λ n. (length piece.new ≡ n) × Consumes was is piece.new × (n ≡ 0 → IsAtEnd is))
-        (λ _. (piece.new ≡ []) × Keeps was is) }
-    ensures others { drop (number + 1) (map R.remaining readers.new)
-        ≡ drop (number + 1) (map R.remaining readers.old) }
-    ensures count { MatchResult result (λ _. map R.failed readers.new ≡ map R.failed readers.old)
-        (λ _. map R.failed readers.new ≡ counted_at number (map R.failed readers.old)) }
-{
-    read_anew(piece, &mut readers[number])
-}
-
-fn is_past(number: u64, count: u64) -> bool
-    ensures past { result ≡ true → (count ≤ number) × (number < 2 ^ 64) }
-    ensures among { result ≡ false → (number < count) × (number + 1 < 2 ^ 64) }
-{
-    number >= count
 }
 
 impl<'a, R: CountedRead> ReaderOutputs<'a, R> {
@@ -99,7 +59,8 @@ impl<'a, R: CountedRead> ReaderOutputs<'a, R> {
             return Ok(());
         }
         let partition = self.opened - 1;
-        match read_at(&mut self.piece, self.readers, partition as usize) {
+        let readers = &mut *self.readers;
+        match self.piece.read_more(&mut readers[partition as usize]) {
             Ok(count) => {
                 self.exhausted = count == 0;
                 Ok(())
@@ -150,7 +111,7 @@ impl<'a, R: CountedRead> Outputs for ReaderOutputs<'a, R> {
     ghost steady = { ⊥ };
 
     fn open_next(&mut self) {
-        self.exhausted = is_past(self.opened, self.readers.len() as u64);
+        self.exhausted = self.opened >= self.readers.len() as u64;
         self.opened = self.opened.saturating_add(1);
         self.piece.clear();
         self.passed = 0;

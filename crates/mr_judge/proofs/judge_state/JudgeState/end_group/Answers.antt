@@ -1,4 +1,4 @@
-use Rattle.std.proofs.Common.{◌≡◌, ◌-◌, [], ap, ◌∙◌}
+use Rattle.std.proofs.Common.{◌≡◌, ◌-◌, ℕ, [], ap, ◌∙◌}
 use Rattle.std.proofs.lemmas.Result.{err_from_is_err_and}
 use Rattle.mr_reduce.specs.Text.{text_of}
 use Rattle.mr_verdict.specs.Verdict.{Reached, behind_group}
@@ -30,4 +30,5 @@ returns-clause-tested g c =
     let st = c.args.self.now in
     let b : Ground = record { request = c.args.request.now; triples = [] } in
     let text : text_of b.request.job c.self.inside.key.now c.self.inside.values ≡ text_of b.request.job st.key st.values = ap (λ (w : Reached). text_of b.request.job w.key w.values) c.self.view_is in
-    group_fine b (gives c.args.outputs.now) (gives c.test_group.new.outputs) (gives c.test_end.new.outputs) st c.close_group.new.self c.args.p (g.O.Outputs.place c.args.outputs.now) c.place.result c.saturating_sub.result (text_of b.request.job c.self.inside.key.now c.self.inside.values) c.in_ok-test_group.field-0 c.in_ok-test_end.field-0 c.requires.here c.requires.place text c.in_ok-test_group.ensures.told (c.place.ensures ∙ (c.in_ok-test_end.ensures.place ∙ c.in_ok-test_group.ensures.place)) (c.saturating_sub.ensures ∙ ap (λ (w : Reached). w.groups - 1) c.self.view_is) c.in_ok-test_end.ensures.told (c.close_group.ensures ∙ ap (λ (w : Reached). closed_at w c.place.result) c.self.view_is)
+    group_fine b (gives c.args.outputs.now) (gives c.test_group.new.outputs) (gives c.test_end.new.outputs) st _ c.args.p (g.O.Outputs.place c.args.outputs.now) c.place-self-inside.result c.saturating_sub.result (text_of b.request.job c.self.inside.key.now c.self.inside.values) c.in_ok-test_group.field-0 c.in_ok-test_end.field-0 c.requires.here c.requires.place text c.in_ok-test_group.ensures.told (c.place-self-inside.ensures ∙ (c.in_ok-test_end.ensures.place ∙ c.in_ok-test_group.ensures.place)) (c.saturating_sub.ensures ∙ ap (λ (w : Reached). w.groups - 1) c.self.view_is) c.in_ok-test_end.ensures.told (ap (λ (w : Reached). record (closed_at w c.place-self-inside.result) { groups = c.saturating_sub-self-inside.result }) c.self.view_is
+    ∙ ap (λ (n : ℕ). record (closed_at st c.place-self-inside.result) { groups = n }) (c.saturating_sub-self-inside.ensures ∙ ap (λ (w : Reached). w.groups - 1) c.self.view_is))

@@ -15,4 +15,4 @@ returns-in_err-test_end-clause-tested g c =
 pub returns-clause-tested : goal.returns-clause-tested
 returns-clause-tested g c =
     let gives = g.O.Outputs.gives in
-    open_fine (gives c.args.outputs.now) (gives c.open_next.new.self) (gives c.test_end.new.outputs) c.args.self.now c.begin_partition.new.self c.args.groups (g.O.Outputs.place c.open_next.new.self) c.in_ok-test_end.field-0 c.open_next.ensures.opens c.in_ok-test_end.ensures.told c.begin_partition.ensures
+    open_fine (gives c.args.outputs.now) (gives c.open_next.new.self) (gives c.test_end.new.outputs) c.args.self.now _ c.args.groups (g.O.Outputs.place c.open_next.new.self) c.in_ok-test_end.field-0 c.open_next.ensures.opens c.in_ok-test_end.ensures.told (ap (λ (w : Reached). opened_at w c.args.groups) c.self.view_is)

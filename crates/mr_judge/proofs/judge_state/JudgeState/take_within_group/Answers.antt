@@ -10,6 +10,6 @@ pub returns : goal.returns
 returns c h s =
     let st = c.args.self.now in
     let t : Triple = record { key = st.key; value = c.args.value; name = c.args.name } in (
-      within_tests s (st.next - 1) st t c.requires.within.0 c.requires.within.1 refl (sym (ap (λ (w : Reached). is_lt (name_order w.before c.args.name)) c.self.view_is) ∙ (sym c.is_name_less.ensures ∙ c.if-not-is_name_less.false)),
+      within_tests s (st.next - 1) st t c.requires.within.0 c.requires.within.1 refl (sym (ap (λ (w : Reached). is_lt (name_order w.before c.args.name)) c.self.view_is) ∙ (sym c.is_name_less-is_past.ensures ∙ c.if-not-is_past.false)),
       c.in_ok-take_later.ensures ∙ sym (within_after s st t c.requires.within.0 c.requires.within.1),
     )

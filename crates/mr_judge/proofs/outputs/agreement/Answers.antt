@@ -1,7 +1,7 @@
 use Rattle.std.proofs.Common.{ap, length, ◌∙◌}
 use Rattle.std.specs.Option.{unwrap_or}
 use Rattle.mr_judge.proofs.Agreements.{agreement-is}
-use Rattle.mr_judge.proofs.entry_tests.agreement.Goals as goal
+use Rattle.mr_judge.proofs.outputs.agreement.Goals as goal
 
 pub returns : goal.returns
 returns c =

@@ -1,7 +1,7 @@
 use Rattle.std.proofs.Common.{◌≡◌, ℕ, List, ◌+◌, ◌++◌, length, take}
 use Rattle.mr_reduce.specs.Text.{text_of}
 use Rattle.mr_judge.specs.Outputs.{CanCome as CanComeAhead}
-use Rattle.mr_judge.proofs.lines.test_lines.Given as goal
+use Rattle.mr_judge.proofs.lines.test_group.Given as goal
 
 abbrev pub invariant-loop-i : goal.invariant-loop-i
 invariant-loop-i g l = record {
