@@ -1,8 +1,5 @@
--- Lists that are made one by one.
-use Rattle.std.proofs.Common.{◌≡◌, ℕ, ◌+◌, ◌<◌, ◌++◌, List, [], ◌∷◌, length, get_or, take, ap, sym, ◌∙◌, map}
-use Rattle.std.proofs.lemmas.List.{map-append, take_more}
+-- A list that grew by one item.
+use Rattle.std.proofs.Common.{◌≡◌, ◌++◌, ◌∙◌, Bool, true, cond, List, [], ◌∷◌, ap, sym}
 
-pub mapped-more : {X Y : Type 0} (f : X → Y) (xs : List X) (i : ℕ) (d : X) (ys : List Y) → i < length xs → ys ≡ map f (take i xs)
-    → ys ++ f (get_or xs i d) ∷ [] ≡ map f (take (i + 1) xs)
-mapped-more f xs i d ys h e =
-    ap (λ l. l ++ f (get_or xs i d) ∷ []) e ∙ sym (map-append f (take i xs) (get_or xs i d ∷ [])) ∙ ap (map f) (sym (take_more xs i d h))
+pub pushed : {X : Type 0} (old new : List X) (x : X) (is_ok : Bool) → new ≡ cond is_ok (old ++ x ∷ []) old → true ≡ is_ok → new ≡ old ++ x ∷ []
+pushed old new x is_ok items ok = items ∙ ap (λ b. cond b (old ++ x ∷ []) old) (sym ok)

@@ -10,15 +10,15 @@
 //! Invariant: the keys of a shard's lines rise, and those of places do not fall. Where they do
 //! not, the line is a `BadLine`, numbered from 0.
 //! Cost: a look at each shard's head a line. Many shards are better merged in groups first.
-ghost use Rattle.std.specs.Prelude.{◌≡◌, ℕ, ◌++◌, List, IfOk, IfSome, IsTrue, MatchOption, Some};
+ghost use Rattle.std.specs.Prelude.{◌≡◌, ℕ, ◌++◌, List, IfOk, IfSome, IsTrue, Some};
 ghost use Rattle.std.specs.Prelude.{None, ◌↔◌, IfErr, false};
 ghost use Rattle.std.specs.List.{AllByRecursion};
 ghost use Rattle.std.specs.Ordering.{is_lt};
 ghost use Rattle.mr_bytes.specs.Cut.{Lacks};
 ghost use Rattle.mr_bytes.specs.Order.{key_order};
-ghost use Rattle.mr_shards.specs.Cursors.{AreBeyond, AreBehind, BlamesNext, Differs, DoesNotFall};
+ghost use Rattle.mr_shards.specs.Cursors.{AreBeyond, AreBehind, BlamesNext, DoesNotFall};
 ghost use Rattle.mr_shards.specs.Cursors.{HasFront, IsAdvanced, IsFound, IsFronted, IsOpen, MayGoOn};
-ghost use Rattle.mr_shards.specs.Cursors.{least_from, lesser, line_at, on, pairs_told, passed};
+ghost use Rattle.mr_shards.specs.Cursors.{least_from, lesser, line_at, on, passed};
 ghost use Rattle.mr_shards.specs.Refused.{BlamesOnly, MayFollow, last_key};
 
 use crate::cutting::{cut_first, find_first};
@@ -50,17 +50,6 @@ pub(crate) struct Cursor<'a> {
     pub is_last: bool,
 }
 
-/// How many pairs a line states; an index has none.
-fn pairs_of(tally: Tally<'_>) -> u64
-    ensures { result ≡ pairs_told tally.entry }
-{
-    match tally {
-        Tally::Total(total) => total,
-        Tally::Place { .. } => 1,
-        Tally::Files { .. } => 0,
-    }
-}
-
 /// What is held once the head is taken.
 fn held_behind(cursor: &Cursor<'_>) -> Held
     ensures { result ≡ passed cursor.now }
@@ -69,8 +58,14 @@ fn held_behind(cursor: &Cursor<'_>) -> Held
     let Some(line) = cursor.head else {
         return held;
     };
+    // The pairs that the line states; an index has none.
+    let stated = match line.tally {
+        Tally::Total(total) => total,
+        Tally::Place { .. } => 1,
+        Tally::Files { .. } => 0,
+    };
     let pairs = match held.pairs {
-        Some(pairs) => pairs.checked_add(pairs_of(line.tally)),
+        Some(pairs) => pairs.checked_add(stated),
         None => None,
     };
     Held {
@@ -206,13 +201,9 @@ fn lesser<'c, 'a>(
     let Some(line) = head else {
         return least;
     };
-    let Some((_, best)) = least else {
-        return Some((at, line));
-    };
-    if is_before(*line, *best) {
-        Some((at, line))
-    } else {
-        least
+    match least {
+        Some((_, best)) if !is_before(*line, *best) => least,
+        _ => Some((at, line)),
     }
 }
 
@@ -230,23 +221,6 @@ fn first_least<'a>(cursors: &[Cursor<'a>]) -> Option<(usize, Line<'a>)>
     }
 }
 
-/// The next line, if it has the key of `last`.
-fn alike<'a>(head: Option<Line<'a>>, last: Line<'_>) -> Option<Line<'a>>
-    requires head { IsFronted head }
-    requires last { HasFront last }
-    ensures { MatchOption result (Differs last.entry head.entry)
-        (λ l. (head.entry ≡ Some l) × (l.key.now ≡ last.entry.key.now)) }
-{
-    let Some(line) = head else {
-        return None;
-    };
-    if have_one_key(line, last) {
-        Some(line)
-    } else {
-        None
-    }
-}
-
 fn first_alike<'a>(cursors: &[Cursor<'a>], from: usize, last: Line<'_>) -> Option<(usize, Line<'a>)>
     requires heads { AllByRecursion (λ c. IsFronted c.head) cursors.now }
     requires last { HasFront last }
@@ -254,8 +228,10 @@ fn first_alike<'a>(cursors: &[Cursor<'a>], from: usize, last: Line<'_>) -> Optio
     ensures { IfSome result (λ r. Some r ≡ least_from None 0 cursors.entry.now) }
 {
     for at in from..cursors.len() {
-        if let Some(line) = alike(cursors[at].head, last) {
-            return Some((at, line));
+        if let Some(line) = cursors[at].head {
+            if have_one_key(line, last) {
+                return Some((at, line));
+            }
         }
     }
     None

@@ -40,10 +40,8 @@ pub fn cut_first(text: &[u8], mark: u8) -> Option<(&[u8], &[u8])>
     ensures { MatchOption result (Lacks mark text.now)
         (λ r. (text.now ≡ r.0.now ++ mark ∷ r.1.now) × Lacks mark r.0.now) }
 {
-    match find_first(mark, text) {
-        Some(at) => Some((&text[..at], &text[at + 1..])),
-        None => None,
-    }
+    let at = find_first(mark, text)?;
+    Some((&text[..at], &text[at + 1..]))
 }
 
 /// Splits the text at the last `mark`.
@@ -51,8 +49,6 @@ pub fn cut_last(text: &[u8], mark: u8) -> Option<(&[u8], &[u8])>
     ensures { MatchOption result (Lacks mark text.now)
         (λ r. (text.now ≡ r.0.now ++ mark ∷ r.1.now) × Lacks mark r.1.now) }
 {
-    match memrchr(mark, text) {
-        Some(at) => Some((&text[..at], &text[at + 1..])),
-        None => None,
-    }
+    let at = memrchr(mark, text)?;
+    Some((&text[..at], &text[at + 1..]))
 }

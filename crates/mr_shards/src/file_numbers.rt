@@ -32,9 +32,7 @@ pub(crate) fn last_file(list: &[u8]) -> Option<u32>
     let mut left = Some(list);
     let mut last = None;
     while let Some(text) = left {
-        let Some((number, rest)) = next_number(text, last) else {
-            return None;
-        };
+        let (number, rest) = next_number(text, last)?;
         last = Some(number);
         left = rest;
     }
@@ -122,13 +120,9 @@ fn cut_two_digits(list: &[u8]) -> Option<(u32, &[u8])>
     if list.len() < 3 || list[0] == b'0' || list[2] != b',' {
         return None;
     }
-    let Some(tens) = with_digit(0, list, 0) else {
-        return None;
-    };
-    match with_digit(tens, list, 1) {
-        Some(number) => Some((number as u32, &list[3..])),
-        None => None,
-    }
+    let tens = with_digit(0, list, 0)?;
+    let number = with_digit(tens, list, 1)?;
+    Some((number as u32, &list[3..]))
 }
 
 /// The first number of a list, if it is greater than the last one and fits in 32 bits, and the list
@@ -141,16 +135,18 @@ fn next_number(list: &[u8], last: Option<u32>) -> Option<(u32, Option<&[u8]>)>
     ensures none { result ≡ None → (n : ℕ) (more : List (List ℕ)) → fields list.entry.now ≡ decimal n ∷ more
         → number_past last ≤ n → n < 2 ^ 32 → ⊥ }
 {
+    let least = match last {
+        Some(number) => number as u64 + 1,
+        None => 0,
+    };
     if let Some((file, rest)) = cut_two_digits(list) {
-        if u64::from(file) < least_past(last) {
+        if u64::from(file) < least {
             return None;
         }
         return Some((file, Some(rest)));
     }
-    let Some((number, rest)) = cut_number(list) else {
-        return None;
-    };
-    if number < least_past(last) {
+    let (number, rest) = cut_number(list)?;
+    if number < least {
         return None;
     }
     if number >= 1 << 32 {
@@ -164,13 +160,4 @@ fn next_number(list: &[u8], last: Option<u32>) -> Option<(u32, Option<&[u8]>)>
         return None;
     }
     Some((file, Some(&rest[1..])))
-}
-
-fn least_past(last: Option<u32>) -> u64
-    ensures { result ≡ number_past last }
-{
-    match last {
-        Some(number) => number as u64 + 1,
-        None => 0,
-    }
 }

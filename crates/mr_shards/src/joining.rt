@@ -9,14 +9,14 @@
 //! the first that fails is the fault. A file that begins twice is found by a set (`first_repeat`).
 //! Cost: one pass over the verdicts; copies of their notes.
 //! Source: docs/FORMATS.md, "Shards that are merged".
-ghost use Rattle.std.specs.Prelude.{◌≡◌, ◌↔◌, ◌⊎◌, ℕ, ◌+◌, ◌<◌, ◌^◌, ◌++◌, List, [], ◌∷◌};
+ghost use Rattle.std.specs.Prelude.{◌≡◌, ◌↔◌, ◌⊎◌, ℕ, ◌+◌, ◌<◌, ◌++◌, List};
 ghost use Rattle.std.specs.Prelude.{true, false, IfErr, IfOk, IsTrue, MatchOption, OnOk, map};
 ghost use Rattle.std.specs.List.{AllByRecursion};
 ghost use Rattle.mr_bytes.specs.Lists.{Has};
 ghost use Rattle.mr_shards.specs.Spots.{shifted_spot};
 ghost use Rattle.mr_shards.specs.Joined.{AreOnce, IsJoinFault, IsJoined, IsNearRange, IsNearSpot};
 ghost use Rattle.mr_shards.specs.Joined.{IsRepeated, JoinedIsTrue, inputs_of as all_inputs};
-ghost use Rattle.mr_shards.specs.Joining.{Fit, Follows, IsShardFault};
+ghost use Rattle.mr_shards.specs.Joining.{Follows, IsShardFault};
 
 use crate::ranges::{FileRange, goes_on_at};
 use crate::shift::{Shift, Spot, behind, shift_past, shifted};
@@ -65,56 +65,28 @@ fn are_near(ranges: &[FileRange]) -> bool
     true
 }
 
-#[derive(Clone, Copy, Drop)]
-enum Unmoved {
-    TooFar,
-    OutOfMemory,
-}
-
-fn add_spot(spots: &mut Vec<Spot>, spot: &Spot, shift: Shift) -> Result<(), Unmoved>
-    ensures ok { OnOk result (spots.new.items ≡ spots.old.items ++ shifted_spot shift spot.now ∷ []) }
-    ensures near { OnOk result (IsNearSpot (shifted_spot shift spot.now)) }
-    ensures far { result ≡ Err Unmoved.TooFar → IsNearSpot (shifted_spot shift spot.now) → ⊥ }
-{
-    let Some(spot) = shifted(&shift, spot) else {
-        return Err(Unmoved::TooFar);
-    };
-    match spots.push(spot) {
-        Ok(()) => Ok(()),
-        Err(_) => Err(Unmoved::OutOfMemory),
-    }
-}
-
-fn add_spots(spots: &mut Vec<Spot>, more: &[Spot], shift: Shift) -> Result<(), Unmoved>
-    ensures ok { OnOk result (spots.new.items ≡ spots.old.items ++ map (shifted_spot shift) more.now) }
-    ensures near { OnOk result (AllByRecursion IsNearSpot (map (shifted_spot shift) more.now)) }
-    ensures far { result ≡ Err Unmoved.TooFar → AllByRecursion IsNearSpot (map (shifted_spot shift) more.now) → ⊥ }
+/// Adds the spots, moved; false where one doesn't fit.
+fn add_spots(spots: &mut Vec<Spot>, more: &[Spot], shift: Shift) -> Result<bool, AllocError>
+    ensures ok { IfOk result (λ near. near ≡ true
+        → spots.new.items ≡ spots.old.items ++ map (shifted_spot shift) more.now) }
+    ensures near { IfOk result (λ near. IsTrue near
+        ↔ AllByRecursion IsNearSpot (map (shifted_spot shift) more.now)) }
 {
     for spot in more {
-        add_spot(spots, spot, shift)?;
+        let Some(moved) = shifted(&shift, spot) else {
+            return Ok(false);
+        };
+        spots.push(moved)?;
     }
-    Ok(())
-}
-
-fn copy_of(alloc: Global, range: &FileRange) -> Result<FileRange, AllocError>
-    ensures { IfOk result (λ n. n ≡ range.now) }
-{
-    Ok(FileRange {
-        name: Vec::from_slice(alloc, range.name.as_slice())?,
-        from: range.from,
-        length: range.length,
-        digest: range.digest,
-        closed: range.closed,
-        ends: range.ends,
-    })
+    Ok(true)
 }
 
 fn add_ranges(alloc: Global, all: &mut Vec<FileRange>, more: &[FileRange]) -> Result<(), AllocError>
     ensures { OnOk result (all.new.items ≡ all.old.items ++ more.now) }
 {
     for range in more {
-        let copy = copy_of(alloc, range)?;
-        all.push(copy).map_err(AllocError::from)?;
+        let name = Vec::from_slice(alloc, range.name.as_slice())?;
+        all.push(FileRange { name, ..*range })?;
     }
     Ok(())
 }
@@ -159,13 +131,8 @@ fn add_verdict(
     let far = JoinFault::PlaceTooFar { shard };
     let (inputs, left_out) = (verdict.inputs.as_slice(), verdict.left_out.as_slice());
     let _count = inputs.len();
-    if !are_near(inputs) {
+    if !are_near(inputs) || !add_spots(&mut joined.verdict.left_out, left_out, joined.past)? {
         return Err(far);
-    }
-    match add_spots(&mut joined.verdict.left_out, left_out, joined.past) {
-        Ok(()) => {}
-        Err(Unmoved::TooFar) => return Err(far),
-        Err(Unmoved::OutOfMemory) => return Err(JoinFault::OutOfMemory),
     }
     let Some(past) = behind(joined.past, shift_past(inputs, rest)) else {
         return Err(far);

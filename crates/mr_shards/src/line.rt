@@ -53,19 +53,11 @@ fn place_of(told: &[u8]) -> Option<(u32, u64)>
         → told.now ≡ decimal file ++ 58 ∷ decimal offset → ⊥)
         (λ r. told.now ≡ decimal r.0 ++ 58 ∷ decimal r.1) }
 {
-    let Some((front, back)) = cut_first(told, b':') else {
+    let (front, back) = cut_first(told, b':')?;
+    let Ok(file) = u32::try_from(number_of(front)?) else {
         return None;
     };
-    let Some(number) = number_of(front) else {
-        return None;
-    };
-    let Some(offset) = number_of(back) else {
-        return None;
-    };
-    let Ok(file) = u32::try_from(number) else {
-        return None;
-    };
-    Some((file, offset))
+    Some((file, number_of(back)?))
 }
 
 /// What follows the key.
@@ -75,24 +67,16 @@ fn tally_of<'a>(job: &Job, told: &'a [u8]) -> Option<Tally<'a>>
         (λ t. IsParsed job.now t told.entry.now) }
 {
     if job.counts() {
-        match number_of(told) {
-            Some(total) => Some(Tally::Total(total)),
-            None => None,
-        }
+        Some(Tally::Total(number_of(told)?))
     } else if job.has_lines() {
-        match place_of(told) {
-            Some((file, offset)) => Some(Tally::Place { file, offset }),
-            None => None,
-        }
+        let (file, offset) = place_of(told)?;
+        Some(Tally::Place { file, offset })
     } else {
-        match last_file(told) {
-            Some(last) => Some(Tally::Files {
-                list: told,
-                last,
-                moved: Shift { files: 0, bytes: 0 },
-            }),
-            None => None,
-        }
+        Some(Tally::Files {
+            list: told,
+            last: last_file(told)?,
+            moved: Shift { files: 0, bytes: 0 },
+        })
     }
 }
 
@@ -101,13 +85,8 @@ fn tally_of<'a>(job: &Job, told: &'a [u8]) -> Option<Tally<'a>>
 fn split_at_last<'a>(job: &Job, line: &'a [u8]) -> Option<(&'a [u8], Tally<'a>)>
     ensures { Splits job.now line.entry.now result }
 {
-    let Some((key, told)) = cut_last(line, b'\t') else {
-        return None;
-    };
-    match tally_of(job, told) {
-        Some(tally) => Some((key, tally)),
-        None => None,
-    }
+    let (key, told) = cut_last(line, b'\t')?;
+    Some((key, tally_of(job, told)?))
 }
 
 /// Splits a line at the tab behind its key. That is its last one; as most keys have none, the place
@@ -157,9 +136,7 @@ pub(crate) fn parse_line<'a>(job: &Job, line: &'a [u8], tab: usize) -> Option<Li
         → line.entry.now ++ 10 ∷ rest ≡ group_text job.now (group_of l) ++ rest) }
     ensures none { (result ≡ None) → (rest : List ℕ) → BeginsWithLine job.now (line.entry.now ++ 10 ∷ rest) → ⊥ }
 {
-    let Some((key, tally)) = split_line(job, line, tab) else {
-        return None;
-    };
+    let (key, tally) = split_line(job, line, tab)?;
     let front = front_in(line, key.len());
     Some(Line { key, front, tally })
 }

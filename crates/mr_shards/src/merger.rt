@@ -11,7 +11,7 @@
 //! Invariant: what was written, with the key that waits and the merge of the lines to come, is the
 //! merge of all. Cost: each line takes one look at the next line of every shard. A round takes, of
 //! some window that isn't the last, all whole lines but one: two lines in each let it go on.
-ghost use Rattle.std.specs.Prelude.{◌≡◌, ℕ, ◌≤◌, ◌++◌, ◌∷◌, [], ◌⊎◌, IfErr, IfOk, OnErr, OnOk, length};
+ghost use Rattle.std.specs.Prelude.{◌≡◌, ℕ, [], ◌⊎◌, IfErr, IfOk, OnOk, length};
 ghost use Rattle.std.specs.Prelude.{map, List, Option, Some, true, false, ◌<◌};
 ghost use Rattle.std.specs.Prelude.{None, IfSome};
 ghost use Rattle.mr_jobs.specs.JobSpec.{JobSpec};
@@ -152,13 +152,6 @@ impl Merger {
     }
 }
 
-fn keep_held(all: &mut Vec<Held>, held: Held) -> Result<(), AllocError>
-    ensures { OnOk result (all.new.items ≡ all.old.items ++ held ∷ []) }
-{
-    all.push(held).map_err(AllocError::from)?;
-    Ok(())
-}
-
 /// What is held of shards of which nothing is taken.
 fn held_of(alloc: Global, files: &[ShardFiles]) -> Result<Vec<Held>, MergeFault>
     ensures ok { IfOk result (λ hs. hs.items ≡ held_for files.now) }
@@ -173,17 +166,10 @@ fn held_of(alloc: Global, files: &[ShardFiles]) -> Result<Vec<Held>, MergeFault>
             lines: 0,
             pairs: Some(0),
         };
-        keep_held(&mut all, held)?;
+        all.push(held).map_err(AllocError::from)?;
         before = go_past(before, files[shard])?;
     }
     Ok(all)
-}
-
-fn keep_cursor<'a>(cursors: &mut Vec<Cursor<'a>>, cursor: Cursor<'a>) -> Result<(), AllocError>
-    ensures { OnOk result (cursors.new.items ≡ cursors.old.items ++ cursor.entry ∷ []) }
-{
-    cursors.push(cursor).map_err(AllocError::from)?;
-    Ok(())
 }
 
 /// Reads the first line of each window; none if one of them isn't whole.
@@ -213,7 +199,7 @@ fn open_all<'a>(
             held,
             is_last,
         };
-        keep_cursor(&mut cursors, cursor)?;
+        cursors.push(cursor).map_err(AllocError::from)?;
     }
     Ok(Some(cursors))
 }
@@ -262,18 +248,7 @@ fn are_ended(cursors: &[Cursor<'_>]) -> bool
 fn all_held(alloc: Global, cursors: &[Cursor<'_>]) -> Result<Vec<Held>, AllocError>
     ensures { IfOk result (λ hs. hs.items ≡ map (λ c. c.held) cursors.now) }
 {
-    let mut all = Vec::new(alloc);
-    for at in 0..cursors.len() {
-        keep_held(&mut all, cursors[at].held)?;
-    }
-    Ok(all)
-}
-
-fn keep_cut(cuts: &mut Vec<usize>, cut: usize) -> Result<(), AllocError>
-    ensures { OnOk result (cuts.new.items ≡ cuts.old.items ++ cut ∷ []) }
-{
-    cuts.push(cut).map_err(AllocError::from)?;
-    Ok(())
+    cursors.iter().map(|cursor| cursor.held).collect(alloc)
 }
 
 /// How many bytes of each window are before its cursor.
@@ -291,7 +266,7 @@ fn cuts_of(
             .bytes
             .len()
             .saturating_sub(cursors[at].text.len());
-        keep_cut(&mut cuts, cut)?;
+        cuts.push(cut)?;
     }
     Ok(cuts)
 }
@@ -299,11 +274,7 @@ fn cuts_of(
 fn no_cuts(alloc: Global, windows: &[Window<'_>]) -> Result<Vec<usize>, AllocError>
     ensures { IfOk result (λ cuts. cuts.items ≡ map no_cut windows.now) }
 {
-    let mut cuts = Vec::new(alloc);
-    for _ in 0..windows.len() {
-        keep_cut(&mut cuts, 0)?;
-    }
-    Ok(cuts)
+    windows.iter().map(|_| 0).collect(alloc)
 }
 
 /// Why outputs are not merged. Shards and lines are numbered from 0.
@@ -366,22 +337,7 @@ fn go_past(before: Shift, files: ShardFiles) -> Result<Shift, MergeFault>
 fn files_in(alloc: Global, outputs: &[ShardText<'_>]) -> Result<Vec<ShardFiles>, AllocError>
     ensures { IfOk result (λ fs. fs.items ≡ map (λ o. o.files) outputs.now) }
 {
-    let mut all = Vec::new(alloc);
-    for at in 0..outputs.len() {
-        all.push(outputs[at].files).map_err(AllocError::from)?;
-    }
-    Ok(all)
-}
-
-fn keep_window<'a>(windows: &mut Vec<Window<'a>>, bytes: &'a [u8]) -> Result<(), AllocError>
-    ensures { OnOk result (windows.new.items
-        ≡ windows.old.items ++ record { bytes = bytes.entry; is_last = true } ∷ []) }
-{
-    let is_last = true;
-    windows
-        .push(Window { bytes, is_last })
-        .map_err(AllocError::from)?;
-    Ok(())
+    outputs.iter().map(|output| output.files).collect(alloc)
 }
 
 /// Windows on the whole outputs.
@@ -391,11 +347,12 @@ fn whole_windows<'a>(
 ) -> Result<Vec<Window<'a>>, AllocError>
     ensures { IfOk result (λ ws. ws.items ≡ map whole_window outputs.entry.now) }
 {
-    let mut windows = Vec::new(alloc);
-    for at in 0..outputs.len() {
-        keep_window(&mut windows, outputs[at].text)?;
-    }
-    Ok(windows)
+    let is_last = true;
+    let whole = outputs.iter().map(|output| Window {
+        bytes: output.text,
+        is_last,
+    });
+    whole.collect(alloc)
 }
 
 /// Merges the outputs that shards have for one partition, in the order of the shards. It refuses

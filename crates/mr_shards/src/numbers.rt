@@ -26,9 +26,7 @@ pub(crate) fn with_digit(value: u64, text: &[u8], at: usize) -> Option<u64>
 fn cut_short(text: &[u8]) -> Option<(u64, &[u8])>
     ensures { IfSome result (λ r. IsCutBehind text.entry.now r.0 r.1.now) }
 {
-    let Some(first) = with_digit(0, text, 0) else {
-        return None;
-    };
+    let first = with_digit(0, text, 0)?;
     let Some(both) = with_digit(first, text, 1) else {
         return Some((first, &text[1..]));
     };
@@ -77,8 +75,6 @@ pub(crate) fn cut_number(text: &[u8]) -> Option<(u64, &[u8])>
 pub fn number_of(digits: &[u8]) -> Option<u64>
     ensures { MatchOption result ((n : ℕ) → n < 2 ^ 64 → digits.now ≡ decimal n → ⊥) (λ n. digits.now ≡ decimal n) }
 {
-    let Some((number, rest)) = cut_number(digits) else {
-        return None;
-    };
+    let (number, rest) = cut_number(digits)?;
     if rest.is_empty() { Some(number) } else { None }
 }

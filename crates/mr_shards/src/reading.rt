@@ -9,17 +9,16 @@
 //! are read too, if they leave out no record: their inputs are whole files.
 //! Cost: a fixed number of passes over the text, and the memory of its values and of a second text.
 //! Source: docs/FORMATS.md, "The verdict".
-ghost use Rattle.std.specs.Prelude.{◌≡◌, ◌⊎◌, ℕ, ◌<◌, ◌^◌, List, [], ◌∷◌, ◌++◌, IfErr, IfOk};
-ghost use Rattle.std.specs.Prelude.{IsTrue, MatchOption, None, Some, OnOk, codes, decimal, map};
+ghost use Rattle.std.specs.Prelude.{◌≡◌, ◌⊎◌, ℕ, ◌<◌, ◌^◌, List, ◌∷◌, ◌++◌, IfErr, IfOk};
+ghost use Rattle.std.specs.Prelude.{MatchOption, None, Some, OnOk, codes, decimal};
 ghost use Rattle.std.specs.Prelude.{Bool, false, true};
 ghost use Rattle.std.specs.List.{AllByRecursion};
 ghost use Rattle.mr_bytes.specs.Cut.{Lacks};
 ghost use Rattle.mr_shards.specs.Lines.{lines};
 ghost use Rattle.mr_shards.specs.RangeNotes.{RangeNote};
 ghost use Rattle.mr_shards.specs.Reading.{Fits, NoteFits, RangeFits, SpotFits, told_of, told_under};
-ghost use Rattle.mr_shards.specs.Reading.{Adds, Finds, IsOldNote, IsOldText, IsRefused};
-ghost use Rattle.mr_shards.specs.Spots.{Spot as Beginning};
-ghost use Rattle.mr_shards.specs.Verdict.{Note, Told, note_told, place_told, range_told, spelled};
+ghost use Rattle.mr_shards.specs.Reading.{Adds, IsOldNote, IsOldText, IsRefused};
+ghost use Rattle.mr_shards.specs.Verdict.{Told, note_told, place_told, range_told, spelled};
 ghost use Rattle.mr_shards.specs.Verdict.{spelling, spot_told};
 
 use crate::numbers::number_of;
@@ -36,9 +35,7 @@ fn behind<'a>(line: &'a [u8], word: &[u8]) -> Option<&'a [u8]>
     ensures { MatchOption result (told_of word.now line.entry.now ≡ None)
         (λ t. told_of word.now line.entry.now ≡ Some t.now) }
 {
-    let Some((front, told)) = cut(line, b' ') else {
-        return None;
-    };
+    let (front, told) = cut(line, b' ')?;
     if front == word { Some(told) } else { None }
 }
 
@@ -69,33 +66,13 @@ fn parted(told: &[u8]) -> (&[u8], &[u8])
 fn number_or_zero(digits: &[u8]) -> u64
     ensures { (n : ℕ) → n < 2 ^ 64 → digits.now ≡ decimal n → result ≡ n }
 {
-    match number_of(digits) {
-        Some(number) => number,
-        None => 0,
-    }
+    number_of(digits).unwrap_or(0)
 }
 
 fn small_or_zero(digits: &[u8]) -> u32
     ensures { (n : ℕ) → n < 2 ^ 32 → digits.now ≡ decimal n → result ≡ n }
 {
-    match u32::try_from(number_or_zero(digits)) {
-        Ok(number) => number,
-        Err(_) => 0,
-    }
-}
-
-fn note_of(alloc: Global, told: &[u8]) -> Result<FileNote, AllocError>
-    ensures { IfOk result (λ r. (n : Note) → NoteFits n → told.now ≡ note_told n → r ≡ n) }
-{
-    let (digits, rest) = parted(told);
-    let (length, name) = parted(rest);
-    let mut digest = [0u8; 32];
-    let _ = decode_to_slice(digits, &mut digest);
-    Ok(FileNote {
-        name: Vec::from_slice(alloc, name)?,
-        length: number_or_zero(length),
-        digest,
-    })
+    u32::try_from(number_or_zero(digits)).unwrap_or(0)
 }
 
 /// Where a range begins, how it ends, and the name of its file.
@@ -150,16 +127,6 @@ fn range_of(alloc: Global, old: bool, told: &[u8]) -> Result<FileRange, AllocErr
     })
 }
 
-fn spot_of(told: &[u8]) -> Spot
-    ensures { (s : Beginning) → SpotFits s → told.now ≡ spot_told s → result ≡ s }
-{
-    let (file, start) = parted(told);
-    Spot {
-        file: small_or_zero(file),
-        start: number_or_zero(start),
-    }
-}
-
 /// Adds the range of a line, if the line tells one.
 fn add_range(
     alloc: Global,
@@ -175,23 +142,8 @@ fn add_range(
     let Some(told) = behind(line, b"input") else {
         return Ok(());
     };
-    let range = range_of(alloc, old, told)?;
-    ranges.push(range).map_err(AllocError::from)?;
+    ranges.push(range_of(alloc, old, told)?)?;
     Ok(())
-}
-
-fn ranges_in(alloc: Global, old: bool, text: &[u8]) -> Result<Vec<FileRange>, AllocError>
-    ensures ranges { IfOk result (λ v. Finds (range_told old) (RangeFits old)
-        (told_under (codes "input") (lines text.now)) v.items) }
-    ensures all { IfOk result (λ v. old ≡ true → AllByRecursion IsOldNote v.items) }
-{
-    let mut ranges = Vec::new(alloc);
-    let mut rest = text;
-    while let Some((line, more)) = cut(rest, b'\n') {
-        add_range(alloc, old, &mut ranges, line)?;
-        rest = more;
-    }
-    Ok(ranges)
 }
 
 /// Adds the part of a line, if the line tells one.
@@ -202,21 +154,16 @@ fn add_note(alloc: Global, notes: &mut Vec<FileNote>, line: &[u8]) -> Result<(),
     let Some(told) = behind(line, b"output") else {
         return Ok(());
     };
-    let note = note_of(alloc, told)?;
-    notes.push(note).map_err(AllocError::from)?;
+    let (digits, rest) = parted(told);
+    let (length, name) = parted(rest);
+    let mut digest = [0u8; 32];
+    let _ = decode_to_slice(digits, &mut digest);
+    notes.push(FileNote {
+        name: Vec::from_slice(alloc, name)?,
+        length: number_or_zero(length),
+        digest,
+    })?;
     Ok(())
-}
-
-fn notes_in(alloc: Global, text: &[u8]) -> Result<Vec<FileNote>, AllocError>
-    ensures { IfOk result (λ v. Finds note_told NoteFits (told_under (codes "output") (lines text.now)) v.items) }
-{
-    let mut notes = Vec::new(alloc);
-    let mut rest = text;
-    while let Some((line, more)) = cut(rest, b'\n') {
-        add_note(alloc, &mut notes, line)?;
-        rest = more;
-    }
-    Ok(notes)
 }
 
 /// Adds the spot of a line, if the line tells where a record begins that is left out.
@@ -227,20 +174,12 @@ fn add_spot(spots: &mut Vec<Spot>, line: &[u8]) -> Result<(), AllocError>
     let Some(told) = behind(line, b"without") else {
         return Ok(());
     };
-    spots.push(spot_of(told)).map_err(AllocError::from)?;
+    let (file, start) = parted(told);
+    spots.push(Spot {
+        file: small_or_zero(file),
+        start: number_or_zero(start),
+    })?;
     Ok(())
-}
-
-fn spots_in(alloc: Global, text: &[u8]) -> Result<Vec<Spot>, AllocError>
-    ensures { IfOk result (λ v. Finds spot_told SpotFits (told_under (codes "without") (lines text.now)) v.items) }
-{
-    let mut spots = Vec::new(alloc);
-    let mut rest = text;
-    while let Some((line, more)) = cut(rest, b'\n') {
-        add_spot(&mut spots, line)?;
-        rest = more;
-    }
-    Ok(spots)
 }
 
 /// Whether the text says that it is of version 1.
@@ -256,9 +195,18 @@ fn told_verdict(alloc: Global, old: bool, text: &[u8]) -> Result<Verdict, AllocE
     ensures all { IfOk result (λ r. old ≡ true → AllByRecursion IsOldNote r.inputs) }
 {
     let literal = Vec::from_slice(alloc, first_told(text, b"literal"))?;
-    let inputs = ranges_in(alloc, old, text)?;
-    let outputs = notes_in(alloc, text)?;
-    let left_out = spots_in(alloc, text)?;
+    let (mut inputs, mut outputs, mut left_out) = (
+        Vec::new(alloc),
+        Vec::new(alloc),
+        Vec::new(alloc),
+    );
+    let mut rest = text;
+    while let Some((line, more)) = cut(rest, b'\n') {
+        add_range(alloc, old, &mut inputs, line)?;
+        add_note(alloc, &mut outputs, line)?;
+        add_spot(&mut left_out, line)?;
+        rest = more;
+    }
     Ok(Verdict {
         job: small_or_zero(first_told(text, b"job")),
         flags: small_or_zero(first_told(text, b"flags")),
@@ -272,25 +220,11 @@ fn told_verdict(alloc: Global, old: bool, text: &[u8]) -> Result<Verdict, AllocE
     })
 }
 
-fn line_feeds(bytes: &[u8]) -> u64 {
-    let mut count = 0u64;
-    for byte in bytes {
-        if *byte == b'\n' {
-            count = count.wrapping_add(1);
-        }
-    }
-    count
-}
-
 /// The first line, from 0, in which two different texts differ.
 fn parting_line(bytes: &[u8], spelled: &[u8]) -> u64 {
-    let Some(at) = first_difference(bytes, spelled) else {
-        return 0;
-    };
-    match bytes.get(..at) {
-        Some(front) => line_feeds(front),
-        None => line_feeds(bytes),
-    }
+    let at = first_difference(bytes, spelled).unwrap_or(0);
+    let front = bytes.get(..at).unwrap_or(bytes);
+    front.iter().filter(|byte| **byte == b'\n').count() as u64
 }
 
 /// Parses the text of a verdict. It refuses exactly the texts of no verdict, and old ones that name

@@ -8,7 +8,7 @@
 //! File numbers move by the files before, where a file that is cut counts once. In the first file
 //! of a portion that goes on, offsets move by the bytes of the file before it. Lines of grep and
 //! spots of left-out records move alike. Cost: one pass over the ranges, from the last one on.
-ghost use Rattle.std.specs.Prelude.{◌≡◌, ℕ, ◌+◌, ◌<◌, ◌≤◌, ◌==◌, ◌^◌, ◌⊎◌, MatchOption, true, false};
+ghost use Rattle.std.specs.Prelude.{◌≡◌, ◌+◌, ◌<◌, ◌≤◌, ◌==◌, ◌^◌, ◌⊎◌, MatchOption, true, false};
 ghost use Rattle.std.specs.Prelude.{if◌then◌else◌, length};
 ghost use Rattle.mr_shards.specs.RangeVerdicts.{end_of, file_lengths, files_of, last_goes_on};
 ghost use Rattle.mr_shards.specs.RangeVerdicts.{last_number, shift_past as do_shift_past};
@@ -102,10 +102,7 @@ pub(crate) fn shifted_file(shift: &Shift, file: u64) -> Option<u32>
     ensures { MatchOption result (2 ^ 32 ≤ shift.now.files + file) (λ n. n ≡ shift.now.files + file) }
 {
     let moved = shift.files.checked_add(file)?;
-    match u32::try_from(moved) {
-        Ok(file) => Some(file),
-        Err(_) => None,
-    }
+    u32::try_from(moved).ok()
 }
 
 /// The offset in that file, moved; none if it doesn't fit in 64 bits.

@@ -11,15 +11,15 @@
 //! `input SHA-256 LENGTH NAME`. `request_of` makes the request.
 //! Cost: linear in the text; a note reads the bytes of its file once.
 //! Source: docs/FORMATS.md, "The verdict".
-ghost use Rattle.std.specs.Prelude.{◌≡◌, ◌↔◌, IfOk, IsTrue, MatchOption, ℕ, [], ◌∷◌, ◌++◌};
-ghost use Rattle.std.specs.Prelude.{◌==◌, OnOk, decimal, if◌then◌else◌, map};
+ghost use Rattle.std.specs.Prelude.{◌≡◌, ◌↔◌, IfOk, IsTrue, MatchOption, [], ◌∷◌, ◌++◌};
+ghost use Rattle.std.specs.Prelude.{◌==◌, OnOk, codes, decimal, if◌then◌else◌, map};
 ghost use Rattle.mr_bytes.specs.declared.By.{By};
 ghost use Rattle.mr_jobs.specs.JobSpec.{RequestSpec, Resources, flags_of, job_flags};
 ghost use Rattle.mr_shards.specs.Truth.{Asks, AsksNone, CanBeMade, by_told, IsNoteOf};
-ghost use Rattle.mr_shards.specs.Truth.{ends_line, note_for, range_for, ranges_for, verdict_for};
+ghost use Rattle.mr_shards.specs.Truth.{note_for, range_for, ranges_for, verdict_for};
 ghost use Rattle.std.specs.List.{flat_map};
 ghost use Rattle.hex.specs.Hex.{encode_lower};
-ghost use Rattle.mr_shards.specs.Verdict.{ending, line_of, note_line, place_told, range_line};
+ghost use Rattle.mr_shards.specs.Verdict.{line_of, note_line, range_line};
 ghost use Rattle.mr_shards.specs.Verdict.{request_lines, spelled, spelling, spot_line};
 
 use crate::ranges::FileRange;
@@ -169,13 +169,6 @@ pub fn note_for(alloc: Global, name: &[u8], bytes: &[u8]) -> Result<FileNote, Al
     })
 }
 
-/// Whether the bytes are empty or end a line.
-fn ends_line(bytes: &[u8]) -> bool
-    ensures { result ≡ ends_line bytes.now }
-{
-    bytes.is_empty() || bytes[bytes.len() - 1] == b'\n'
-}
-
 /// The note of bytes that begin at `from` in the file of that name. `ends`: the file ends there.
 pub fn range_for(
     alloc: Global,
@@ -191,7 +184,7 @@ pub fn range_for(
         from,
         length: bytes.len() as u64,
         digest: Sha256::digest(bytes),
-        closed: ends_line(bytes),
+        closed: bytes.last().map_or(true, |last| *last == b'\n'),
         ends,
     })
 }
@@ -211,35 +204,18 @@ pub fn ranges_for(
     let mut notes = Vec::new(alloc);
     for file in 0..names.len().min(input.files()) {
         let (name, bytes) = (names[file].as_bytes(), input.file(file));
+        let begin = if file == 0 { from } else { 0 };
         let whole = ends || file + 1 < names.len();
-        let note = range_for(alloc, name, begin_of(file, from), bytes, whole)?;
-        add_range(&mut notes, note)?;
+        notes.push(range_for(alloc, name, begin, bytes, whole)?)?;
     }
     Ok(notes)
-}
-
-/// Where a file of a stretch begins; only the first one may begin inside.
-fn begin_of(file: usize, from: u64) -> u64
-    ensures { result ≡ (if file == 0 then from else 0) }
-{
-    if file == 0 { from } else { 0 }
-}
-
-fn add_range(notes: &mut Vec<FileRange>, note: FileRange) -> Result<(), AllocError>
-    ensures { OnOk result (notes.new.items ≡ notes.old.items ++ note ∷ []) }
-{
-    notes.push(note).map_err(AllocError::from)
 }
 
 /// Whether length and digest fit the bytes, whatever the name.
 pub fn is_note_of(note: &FileNote, bytes: &[u8]) -> bool
     ensures { IsTrue result ↔ IsNoteOf note.now bytes.now }
 {
-    if note.length != bytes.len() as u64 {
-        return false;
-    }
-    let digest = Sha256::digest(bytes);
-    digest.as_slice() == note.digest.as_slice()
+    note.length == bytes.len() as u64 && Sha256::digest(bytes).as_slice() == note.digest.as_slice()
 }
 
 /// The verdict for a request, without notes of files and with no record left out.
@@ -289,53 +265,21 @@ fn put_digest(digest: &[u8; 32], out: &mut Vec<u8>) -> Result<(), AllocError>
     Ok(())
 }
 
-/// `WORD DIGEST LENGTH NAME`.
-fn put_note(word: &[u8], note: &FileNote, out: &mut Vec<u8>) -> Result<(), AllocError>
-    ensures { OnOk result (out.new.items ≡ out.old.items ++ note_line word.now note.now) }
-{
-    let mut digits = Buffer::new();
-    out.extend_from_slice(word)?;
-    out.push(b' ')?;
-    put_digest(&note.digest, out)?;
-    put_line(
-        digits.format(note.length).as_bytes(),
-        note.name.as_slice(),
-        out,
-    )
-}
-
-fn put_notes(word: &[u8], notes: &[FileNote], out: &mut Vec<u8>) -> Result<(), AllocError>
-    ensures { OnOk result (out.new.items ≡ out.old.items ++ flat_map (note_line word.now) notes.now) }
+/// `output DIGEST LENGTH NAME` for each part.
+fn put_notes(notes: &[FileNote], out: &mut Vec<u8>) -> Result<(), AllocError>
+    ensures { OnOk result (out.new.items ≡ out.old.items
+        ++ flat_map (note_line (codes "output")) notes.now) }
 {
     for note in notes {
-        put_note(word, note, out)?;
+        let mut length = Buffer::new();
+        out.extend_from_slice(b"output ")?;
+        put_digest(&note.digest, out)?;
+        put_line(
+            length.format(note.length).as_bytes(),
+            note.name.as_slice(),
+            out,
+        )?;
     }
-    Ok(())
-}
-
-/// How a range ends.
-fn ending(range: &FileRange) -> &'static [u8]
-    ensures { result.now ≡ ending range.now }
-{
-    if !range.ends {
-        return b"more";
-    }
-    if range.closed { b"end" } else { b"open" }
-}
-
-/// `FROM ENDING NAME`, or of an old text `NAME`, and a line feed.
-fn put_place(old: bool, range: &FileRange, out: &mut Vec<u8>) -> Result<(), AllocError>
-    ensures { OnOk result (out.new.items ≡ out.old.items ++ place_told old range.now ++ 10 ∷ []) }
-{
-    if !old {
-        let mut digits = Buffer::new();
-        out.extend_from_slice(digits.format(range.from).as_bytes())?;
-        out.push(b' ')?;
-        out.extend_from_slice(ending(range))?;
-        out.push(b' ')?;
-    }
-    out.extend_from_slice(range.name.as_slice())?;
-    out.push(b'\n')?;
     Ok(())
 }
 
@@ -348,51 +292,41 @@ fn put_range(old: bool, range: &FileRange, out: &mut Vec<u8>) -> Result<(), Allo
     put_digest(&range.digest, out)?;
     out.extend_from_slice(digits.format(range.length).as_bytes())?;
     out.push(b' ')?;
-    put_place(old, range, out)
-}
-
-fn put_ranges(old: bool, ranges: &[FileRange], out: &mut Vec<u8>) -> Result<(), AllocError>
-    ensures { OnOk result (out.new.items ≡ out.old.items ++ flat_map (range_line old) ranges.now) }
-{
-    for range in ranges {
-        put_range(old, range, out)?;
+    if !old {
+        out.extend_from_slice(digits.format(range.from).as_bytes())?;
+        out.extend_from_slice(match (range.ends, range.closed) {
+            (false, _) => b" more ",
+            (true, true) => b" end ",
+            (true, false) => b" open ",
+        })?;
     }
+    out.extend_from_slice(range.name.as_slice())?;
+    out.push(b'\n')?;
     Ok(())
 }
 
-/// `without FILE OFFSET`.
-fn put_spot(spot: &Spot, out: &mut Vec<u8>) -> Result<(), AllocError>
-    ensures { OnOk result (out.new.items ≡ out.old.items ++ spot_line spot.now) }
-{
-    let mut file = Buffer::new();
-    let mut start = Buffer::new();
-    out.extend_from_slice(b"without ")?;
-    put_line(
-        file.format(spot.file).as_bytes(),
-        start.format(spot.start).as_bytes(),
-        out,
-    )
-}
-
+/// `without FILE OFFSET` for each left-out record.
 fn put_spots(spots: &[Spot], out: &mut Vec<u8>) -> Result<(), AllocError>
     ensures { OnOk result (out.new.items ≡ out.old.items ++ flat_map spot_line spots.now) }
 {
     for spot in spots {
-        put_spot(spot, out)?;
+        let mut file = Buffer::new();
+        let mut start = Buffer::new();
+        out.extend_from_slice(b"without ")?;
+        put_line(
+            file.format(spot.file).as_bytes(),
+            start.format(spot.start).as_bytes(),
+            out,
+        )?;
     }
     Ok(())
-}
-
-fn version_of(old: bool) -> u64
-    ensures { result ≡ (if old then 1 else 2) }
-{
-    if old { 1 } else { 2 }
 }
 
 fn put_request(old: bool, verdict: &Verdict, out: &mut Vec<u8>) -> Result<(), AllocError>
     ensures { OnOk result (out.new.items ≡ out.old.items ++ request_lines old verdict.now) }
 {
-    put_number(b"verdict", version_of(old), out)?;
+    let version = if old { 1 } else { 2 };
+    put_number(b"verdict", version, out)?;
     put_number(b"job", verdict.job as u64, out)?;
     put_number(b"flags", verdict.flags as u64, out)?;
     put_line(b"literal", verdict.literal.as_slice(), out)?;
@@ -413,8 +347,10 @@ pub(crate) fn text_of(alloc: Global, old: bool, verdict: &Verdict) -> Result<Vec
 {
     let mut out = Vec::new(alloc);
     put_request(old, verdict, &mut out)?;
-    put_ranges(old, verdict.inputs.as_slice(), &mut out)?;
-    put_notes(b"output", verdict.outputs.as_slice(), &mut out)?;
+    for range in verdict.inputs.as_slice() {
+        put_range(old, range, &mut out)?;
+    }
+    put_notes(verdict.outputs.as_slice(), &mut out)?;
     put_spots(verdict.left_out.as_slice(), &mut out)?;
     put_number(b"emitted", verdict.pairs, &mut out)?;
     Ok(out)

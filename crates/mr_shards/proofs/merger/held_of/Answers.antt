@@ -7,6 +7,7 @@ use Rattle.mr_shards.specs.Portions.{Shift, behind, no_shift, past_shard}
 use Rattle.mr_shards.specs.Refused.{PassesNot}
 use Rattle.mr_shards.specs.Rounds.{IsTooFar, held_for, held_from}
 use Rattle.mr_shards.proofs.FreshLemmas.{held-more, no_files, shift-more}
+use Rattle.mr_shards.proofs.ListLemmas.{pushed}
 use Rattle.mr_shards.proofs.RefusedLemmas.{handed}
 use Rattle.mr_shards.proofs.merger.held_of.Goals as goal
 
@@ -27,7 +28,7 @@ loop-shard-preserved c =
     let fs = c.args.files.now in
     let i = c.loop-shard.shard in
     record {
-      all = ap (λ (hs : List Held). hs ++ held_from c.in_ok-before.before (drop (i + 1) fs)) c.in_ok-keep_held.ensures
+      all = ap (λ (hs : List Held). hs ++ held_from c.in_ok-before.before (drop (i + 1) fs)) (pushed _ _ _ _ c.push.ensures.items c.in_ok-map_err.ensures.variant)
           ∙ held-more fs i no_files c.loop-shard.all.items c.loop-shard.before c.in_ok-before.before (held_for fs) c.loop-shard-test.true c.in_ok-before.ensures.ok c.loop-shard.invariant.all;
       before = c.in_ok-before.ensures.ok ∙ ap (λ (s : Shift). behind s (past_shard (get_or c.args.files.now c.loop-shard.shard no_files))) c.loop-shard.invariant.before
           ∙ sym (shift-more no_shift fs i no_files c.loop-shard-test.true);

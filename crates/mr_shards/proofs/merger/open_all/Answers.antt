@@ -4,6 +4,7 @@ use Rattle.std.proofs.lemmas.Result.{err_from_is_err_and}
 use Rattle.mr_shards.specs.declared.merger.MergeFault.{MergeFault}
 use Rattle.mr_shards.specs.Refused.{Blames}
 use Rattle.mr_shards.specs.Rounds.{AreReadUpTo, AreWindows, Reading, outputs_of}
+use Rattle.mr_shards.proofs.ListLemmas.{pushed}
 use Rattle.mr_shards.proofs.RefusedLemmas.{blames-opening, handed}
 use Rattle.mr_shards.proofs.RoundLemmas.{dry-at, no_reading, open-here, open-push, window-at, windows-count}
 use Rattle.mr_shards.proofs.merger.open_all.Goals as goal
@@ -26,10 +27,10 @@ returns-in_default-clause-none c = λ _.
 
 pub loop-shard-preserved : goal.loop-shard-preserved
 loop-shard-preserved c =
-    let e = c.in_ok-keep_cursor.ensures in
+    let e = pushed _ _ _ _ c.push.ensures.items c.in_ok-map_err.ensures.variant in
     let here = open-here c.args.job.now _ _ _ _ c.in-Some.head c.in-Some.rest c.in-Some.is c.in_ok-head.ensures.some in
     record {
       count = ap length e ∙ length_push c.loop-shard.cursors.items _ ∙ ap (λ k. k + 1) c.loop-shard.invariant.count;
-      at = λ i h w d l. open-push c.args.job.now c.args.held.now c.args.windows.now c.loop-shard.cursors.items c.keep_cursor.new.cursors.items c.loop-shard.shard _ _ _ _
+      at = λ i h w d l. open-push c.args.job.now c.args.held.now c.args.windows.now c.loop-shard.cursors.items c.push.new.self.items c.loop-shard.shard _ _ _ _
           c.loop-shard.invariant.count c.loop-shard-test.true e here c.loop-shard.invariant.at (omega (arith, c.loop-shard-test.true, c.requires)) i h w d l;
     }

@@ -1,10 +1,10 @@
-use Rattle.std.proofs.Common.{◌≡◌, ℕ, suc, ◌+◌, ◌<◌, ◌∙◌, ◌++◌, [], ◌∷◌, length, map, true, ap, sym, arith}
-use Rattle.std.proofs.lemmas.Bool.{le-ltb, lt-ltb}
+use Rattle.std.proofs.Common.{◌≡◌, ℕ, suc, ◌+◌, ◌<◌, ◌∙◌, ◌++◌, [], ◌∷◌, cond, length, map, true, ap, sym, arith, eq-eqb}
+use Rattle.std.proofs.lemmas.Bool.{le-ltb, lt-ltb, ne_eqb}
 use Rattle.std.proofs.lemmas.List.{get_or-map, length-map}
 use Rattle.mr_shards.specs.RangeNotes.{RangeNote}
 use Rattle.mr_shards.specs.Truth.{range_for}
 use Rattle.mr_shards.proofs.StretchLemmas.{all-ranges, begin_at, more-ranges}
-use Rattle.mr_shards.proofs.verdict.ranges_for.Goals.{then-ends, else-ends}
+use Rattle.mr_shards.proofs.verdict.ranges_for.Goals.{then-file-eq0, else-file-eq0, then-ends, else-ends}
 use Rattle.mr_shards.proofs.verdict.ranges_for.Goals as goal
 
 pub loop-file-preserved : goal.loop-file-preserved
@@ -24,11 +24,14 @@ loop-file-preserved c =
       | then-ends w ↦ w.whole-is
       | else-ends w ↦ w.whole-is ∙ le-ltb (i + 1) count (omega (arith, e, many)) ∙ sym w.if-ends.false
     ] in
-    let note : c.in_ok-note.note ≡ range_for c.as_bytes-name.result.now (begin_at i c.args.from) c.file-bytes.result.now c.if-ends.whole =
-    c.in_ok-note.ensures ∙ ap (λ (k : ℕ). range_for c.as_bytes-name.result.now k c.file-bytes.result.now c.if-ends.whole) c.begin_of.ensures in
-    more-ranges names c.args.input.now i c.args.from c.args.ends c.if-ends.whole [] [] c.as_bytes-name.result.now c.file-bytes.result.now c.loop-file.notes.items c.add_range.new.notes.items
+    let begin : c.if-file-eq0.begin ≡ begin_at i c.args.from = elim c.if-file-eq0.branch [
+      | then-file-eq0 w ↦ w.begin-is ∙ sym (ap (λ b. cond b c.args.from 0) (eq-eqb i 0 w.if-file-eq0.true))
+      | else-file-eq0 w ↦ w.begin-is ∙ sym (ap (λ b. cond b c.args.from 0) (ne_eqb i 0 w.if-file-eq0.false))
+    ] in
+    let note = c.in_ok-range_for.ensures ∙ ap (λ (k : ℕ). range_for c.as_bytes-name.result.now k c.file-bytes.result.now c.if-ends.whole) begin in
+    more-ranges names c.args.input.now i c.args.from c.args.ends c.if-ends.whole [] [] c.as_bytes-name.result.now c.file-bytes.result.now c.loop-file.notes.items c.push.new.self.items
     few_names few_files (c.as_bytes-name.ensures.value ∙ sym (get_or-map (λ s. s.now) c.args.names.now i _ [] inside)) c.file-bytes.ensures.bytes more last
-    (c.in_ok-add_range.ensures ∙ ap (λ (n : RangeNote). c.loop-file.notes.items ++ n ∷ []) note) c.loop-file.invariant
+    (c.in_ok-push.ensures.items ∙ ap (λ (n : RangeNote). c.loop-file.notes.items ++ n ∷ []) note) c.loop-file.invariant
 
 pub returns : goal.returns
 returns c =
