@@ -108,25 +108,6 @@ fn place_of<'a>(old: bool, told: &'a [u8]) -> RangePlace<'a>
     }
 }
 
-fn range_of(alloc: Global, old: bool, told: &[u8]) -> Result<FileRange, AllocError>
-    ensures range { IfOk result (λ r. (n : RangeNote) → RangeFits old n → told.now ≡ range_told old n → r ≡ n) }
-    ensures all { IfOk result (λ r. old ≡ true → IsOldNote r) }
-{
-    let (digits, rest) = parted(told);
-    let (length, rest) = parted(rest);
-    let place = place_of(old, rest);
-    let mut digest = [0u8; 32];
-    let _ = decode_to_slice(digits, &mut digest);
-    Ok(FileRange {
-        name: Vec::from_slice(alloc, place.name)?,
-        from: place.from,
-        length: number_or_zero(length),
-        digest,
-        closed: place.closed,
-        ends: place.ends,
-    })
-}
-
 /// Adds the range of a line, if the line tells one.
 fn add_range(
     alloc: Global,
@@ -142,7 +123,19 @@ fn add_range(
     let Some(told) = behind(line, b"input") else {
         return Ok(());
     };
-    ranges.push(range_of(alloc, old, told)?)?;
+    let (digits, rest) = parted(told);
+    let (length, rest) = parted(rest);
+    let place = place_of(old, rest);
+    let mut digest = [0u8; 32];
+    let _ = decode_to_slice(digits, &mut digest);
+    ranges.push(FileRange {
+        name: Vec::from_slice(alloc, place.name)?,
+        from: place.from,
+        length: number_or_zero(length),
+        digest,
+        closed: place.closed,
+        ends: place.ends,
+    })?;
     Ok(())
 }
 

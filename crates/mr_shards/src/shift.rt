@@ -8,15 +8,14 @@
 //! File numbers move by the files before, where a file that is cut counts once. In the first file
 //! of a portion that goes on, offsets move by the bytes of the file before it. Lines of grep and
 //! spots of left-out records move alike. Cost: one pass over the ranges, from the last one on.
-ghost use Rattle.std.specs.Prelude.{◌≡◌, ◌+◌, ◌<◌, ◌≤◌, ◌==◌, ◌^◌, ◌⊎◌, MatchOption, true, false};
-ghost use Rattle.std.specs.Prelude.{if◌then◌else◌, length};
+ghost use Rattle.std.specs.Prelude.{◌≡◌, ◌+◌, ◌<◌, ◌≤◌, ◌^◌, ◌⊎◌, MatchOption, true, false};
+ghost use Rattle.std.specs.Prelude.{length};
 ghost use Rattle.mr_shards.specs.RangeVerdicts.{end_of, file_lengths, files_of, last_goes_on};
 ghost use Rattle.mr_shards.specs.RangeVerdicts.{last_number, shift_past as do_shift_past};
 ghost use Rattle.mr_shards.specs.Joined.{IsNearShift};
 ghost use Rattle.mr_shards.specs.Portions.{behind as both, past_shard};
 ghost use Rattle.mr_shards.specs.Portions.{shifted_start as moved_start};
 ghost use Rattle.mr_shards.specs.Spots.{shifted_spot};
-ghost use Rattle.mr_shards.specs.Gaps.{goes_on_at as is_going_on_at, note_at};
 
 use crate::ranges::{FileRange, goes_on, goes_on_at};
 use std::marker::Model;
@@ -157,33 +156,15 @@ fn count_files(ranges: &[FileRange]) -> Counted
     let mut begin = 0;
     while at > 0 {
         at -= 1;
-        files = files_with(ranges, at, files);
-        begin = begin_with(ranges, at, files, begin);
+        if !goes_on_at(ranges, at + 1) {
+            files += 1;
+        }
+        let range = &ranges[at];
+        if files == 1 {
+            begin = range.from;
+        }
     }
     Counted { files, begin }
-}
-
-/// The files from that range on, if there are so many from the next one on.
-fn files_with(ranges: &[FileRange], at: usize, files: u64) -> u64
-    requires { files + at < length ranges.now }
-    ensures { result ≡ (if is_going_on_at ranges.now (at + 1) then files else files + 1) }
-{
-    if goes_on_at(ranges, at + 1) {
-        return files;
-    }
-    files + 1
-}
-
-/// Where the last file from that range on begins, if there are so many.
-fn begin_with(ranges: &[FileRange], at: usize, files: u64, begin: u64) -> u64
-    requires { at < length ranges.now }
-    ensures { result ≡ (if files == 1 then (note_at ranges.now at).from else begin) }
-{
-    let range = &ranges[at];
-    if files == 1 {
-        return range.from;
-    }
-    begin
 }
 
 /// Where the last range ends, if the first of the ranges behind goes on with it.
