@@ -1,7 +1,7 @@
 -- Names and bytes, one behind another.
 use Rattle.std.proofs.Common.{◌≡◌, ℕ, zero, suc, ◌+◌, ◌-◌, ◌<◌, List, [], ◌∷◌, ◌++◌, length, get_or, take, drop, map, refl, sym, ap, ◌∙◌, ◌≢◌, ◌≤◌, subst, arith, append_assoc, append-nil}
 use Rattle.std.proofs.Math.Seq.{take-suc, drop-cons}
-use Rattle.std.proofs.lemmas.List.{map-append, take-append-drop}
+use Rattle.std.proofs.lemmas.List.{map-append, take-append-drop, take_all}
 use Rattle.std.proofs.Common.{Result, Ok, Err}
 use Rattle.std.specs.Prelude.{Vec, OnOk}
 use Rattle.std.specs.Global.{Global}
@@ -25,6 +25,12 @@ pub names_more : {A : Type 0} (f : A → List ℕ) (xs : List A) (i : ℕ) (d : 
 names_more f xs i d h =
     let next : i + 1 ≡ suc i = omega arith in
     ap (λ k. map f (take k xs)) next ∙ (ap (map f) (take-suc xs i d h) ∙ map-append f (take i xs) (get_or xs i d ∷ []))
+
+-- as many parts as there are, are all
+pub all_parts : (holds : List ℕ → List ℕ → Type 0) (dir : List ℕ) (n : ℕ) (outputs : List (Vec ℕ Global)) → n ≡ length outputs → Holding holds (part_names dir n) (contents (take n outputs)) → Holding holds (part_names dir (length outputs)) (contents outputs)
+all_parts holds dir n outputs all h =
+    subst (λ (os : List (Vec ℕ Global)). Holding holds (part_names dir (length outputs)) (contents os)) (take_all (length outputs) outputs (omega arith))
+    (subst (λ (k : ℕ). Holding holds (part_names dir k) (contents (take k outputs))) all h)
 
 pub names_split : {A : Type 0} (f : A → List ℕ) (xs : List A) (i : ℕ) (d : A) → i < length xs → map f xs ≡ map f (take i xs) ++ f (get_or xs i d) ∷ map f (drop (suc i) xs)
 names_split f xs i d h =
@@ -121,11 +127,11 @@ only_again old mid new name first last f l c k n b d =
 pub among_front : (old new : List ℕ → List ℕ → Type 0) (names more : List (List ℕ)) → ChangesAmong old new names → ChangesAmong old new (names ++ more)
 among_front old new names more c n b d = c n b (differs_front n names more d)
 
-pub among_parts : (old new : List ℕ → List ℕ → Type 0) (dir : List ℕ) (k n : ℕ) → k ≤ n → ChangesAmong old new (part_names dir k) → ChangesAmong old new (part_names dir n)
-among_parts old new dir k n h c =
+pub among_result : (old new : List ℕ → List ℕ → Type 0) (dir : List ℕ) (k n : ℕ) → k ≤ n → ChangesAmong old new (part_names dir k) → ChangesAmong old new (result_names dir n)
+among_result old new dir k n h c =
     let (more, is) = parts_extend dir k (n - k) in
     let e : n ≡ n - k + k = omega (arith, h) in
-    subst (ChangesAmong old new) (sym (ap (part_names dir) e ∙ is)) (among_front old new (part_names dir k) more c)
+    among_front old new (part_names dir n) (name_of_certificate dir ∷ []) (subst (ChangesAmong old new) (sym (ap (part_names dir) e ∙ is)) (among_front old new (part_names dir k) more c))
 
 -- what holds anyhow
 pub ok_anyhow : {T E : Type 0} (r : Result T E) (P : Type 0) → P → OnOk r P

@@ -11,7 +11,7 @@ use Rattle.mr_files.specs.Names.{name_of_certificate, name_of_part, part_names, 
 use Rattle.mr_files.specs.Refusals.{IsOneUnreadWithin, IsUnreadWithin}
 use Rattle.mr_files.specs.declared.reading.LimitFault.{LimitFault}
 use Rattle.mr_files.specs.declared.reading.LimitFault.TheVariants.{File, TooLong}
-use Rattle.mr_files.proofs.Lists.{contents_more, one_part, part_among}
+use Rattle.mr_files.proofs.Lists.{contents_more, one_certificate, one_part, part_among}
 
 -- what was read begins what stands there
 pub read_begins : (known left : Option (List ℕ)) (got : List ℕ) → Consumes known left got → (b : List ℕ) × Agrees known b × (length got ≤ length b)
@@ -52,3 +52,8 @@ part_within holds unreadable dir k n limit TooLong h (bytes, here, long) =
       here,
       long,
     )
+
+pub certificate_within : (holds : Stored) (unreadable : Faulty) (dir : List ℕ) (n limit : ℕ) (e : LimitFault)
+    → IsUnreadWithin holds unreadable (name_of_certificate dir) limit e → IsOneUnreadWithin holds unreadable (result_names dir n) limit e
+certificate_within holds unreadable dir n limit (File fault) u = one_certificate unreadable dir n fault u
+certificate_within holds unreadable dir n limit TooLong (bytes, here, long) = (part_names dir n, [], name_of_certificate dir, bytes, refl, here, long)

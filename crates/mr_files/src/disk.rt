@@ -18,7 +18,7 @@ use crate::store::{Store, WriteFault};
 use mr_store::{CountedRead, CountedWrite, Device, Failures, ReadFault, read_some, write_some};
 use std::alloc::{AllocError, Global};
 use std::cell::Cell;
-use std::fs::{self, File, Metadata};
+use std::fs::{self, File};
 use std::io::{self, ErrorKind, Seek, SeekFrom, Write};
 use std::mem;
 use std::os::unix::fs::MetadataExt;
@@ -47,10 +47,6 @@ fn noted<T>(last: &Cell<i32>, answer: io::Result<T>) -> io::Result<T>
     answer
 }
 
-fn closed<F>() -> io::Result<F> {
-    Err(io::Error::from(ErrorKind::Other))
-}
-
 /// Opens a file at byte `at`, or at its end if that comes before. A pipe is opened at 0 alone.
 fn open_at<R: Files>(rt: &R, name: &str, at: u64) -> io::Result<R::File> {
     let mut file = File::open(rt, name)?;
@@ -73,16 +69,6 @@ pub struct FileReader<'a, R: Files> {
 }
 
 impl<'a, R: Files> FileReader<'a, R> {
-    fn open(&mut self) -> io::Result<R::File>
-        ensures { self.new.failures ≡ self.old.failures }
-    {
-        match mem::replace(&mut self.handle, Handle::Closed) {
-            Handle::Unopened => open_at(self.rt, self.name.as_str(), self.at),
-            Handle::Open(file) => Ok(file),
-            Handle::Ended | Handle::Closed => closed(),
-        }
-    }
-
     fn read_open(&mut self, buffer: &mut [u8]) -> io::Result<usize>
         ensures bound { IfOk result (λ n. n ≤ length buffer.new) }
         ensures same { self.new.failures ≡ self.old.failures }
@@ -90,7 +76,11 @@ impl<'a, R: Files> FileReader<'a, R> {
         if let Handle::Ended = self.handle {
             return Ok(0);
         }
-        let mut file = self.open()?;
+        let mut file = match mem::replace(&mut self.handle, Handle::Closed) {
+            Handle::Unopened => open_at(self.rt, self.name.as_str(), self.at)?,
+            Handle::Open(file) => file,
+            Handle::Ended | Handle::Closed => return Err(io::Error::from(ErrorKind::Other)),
+        };
         let count = read_some(&mut file, buffer)?;
         if count > 0 || buffer.is_empty() {
             self.handle = Handle::Open(file);
@@ -137,7 +127,7 @@ impl<'a, R: Files> FileWriter<'a, R> {
         match mem::replace(&mut self.handle, Handle::Closed) {
             Handle::Unopened => File::create(self.rt, self.name.as_str()),
             Handle::Open(file) => Ok(file),
-            Handle::Ended | Handle::Closed => closed(),
+            Handle::Ended | Handle::Closed => Err(io::Error::from(ErrorKind::Other)),
         }
     }
 
@@ -198,30 +188,6 @@ impl<'a, R: Files> DiskFiles<'a, R> {
     }
 }
 
-/// Whether it is a pipe, a socket or a device.
-fn is_stream<R: Files>(rt: &R, name: &str) -> bool {
-    match fs::metadata(rt, name) {
-        Ok(seen) => !seen.is_file() && !seen.is_dir(),
-        Err(_) => false,
-    }
-}
-
-fn are_one_file<R: Files>(rt: &R, name: &str, other: &str) -> bool {
-    match (fs::metadata(rt, name), fs::metadata(rt, other)) {
-        (Ok(one), Ok(two)) => one.dev() == two.dev() && one.ino() == two.ino(),
-        _ => false,
-    }
-}
-
-/// `DEVICE:INODE` of an existing file or folder.
-fn identity_of(alloc: Global, seen: &Metadata) -> Result<Option<String>, AllocError> {
-    if !seen.is_file() && !seen.is_dir() {
-        return Ok(None);
-    }
-    let (device, number) = (seen.dev(), seen.ino());
-    Ok(Some(format!(in alloc; "{device}:{number}")?))
-}
-
 /// The folder and the last part of a name.
 fn parted(name: &str) -> (&str, &str) {
     match name.rsplit_once('/') {
@@ -238,13 +204,11 @@ fn identity_to_be<R: Files>(
     name: &str,
 ) -> Result<Option<String>, AllocError> {
     let (folder, last) = parted(name);
-    match fs::metadata(rt, folder) {
-        Ok(seen) => {
-            let (device, number) = (seen.dev(), seen.ino());
-            Ok(Some(format!(in alloc; "{device}:{number}/{last}")?))
-        }
-        Err(_) => Ok(None),
-    }
+    let Ok(seen) = fs::metadata(rt, folder) else {
+        return Ok(None);
+    };
+    let (device, number) = (seen.dev(), seen.ino());
+    Ok(Some(format!(in alloc; "{device}:{number}/{last}")?))
 }
 
 /// The target of a symbolic link; none if the name is no link.
@@ -277,15 +241,26 @@ impl<'a, R: Files> Store for DiskFiles<'a, R> {
     ghost known_as = { λ _ _ _. ⊤ };
 
     fn is_same_folder(&self, name: &str, other: &str) -> bool {
-        name == other || are_one_file(self.rt, name, other)
+        if name == other {
+            return true;
+        }
+        match (fs::metadata(self.rt, name), fs::metadata(self.rt, other)) {
+            (Ok(one), Ok(two)) => one.dev() == two.dev() && one.ino() == two.ino(),
+            _ => false,
+        }
     }
 
-    // Follows a link to a missing file: a write to the link's name creates that file.
+    // `DEVICE:INODE` of an existing file or folder. It follows a link to a missing file: a write to
+    // the link's name creates that file.
     fn identity(&self, alloc: Global, name: &str) -> Result<Option<String>, AllocError> {
         let mut name = String::from_str(alloc, name)?;
         for _ in 0..MOST_LINKS {
             if let Ok(seen) = fs::metadata(self.rt, name.as_str()) {
-                return identity_of(alloc, &seen);
+                if !seen.is_file() && !seen.is_dir() {
+                    return Ok(None);
+                }
+                let (device, number) = (seen.dev(), seen.ino());
+                return Ok(Some(format!(in alloc; "{device}:{number}")?));
             }
             match link_target(self.rt, alloc, name.as_str())? {
                 Some(target) => name = target,
@@ -296,7 +271,10 @@ impl<'a, R: Files> Store for DiskFiles<'a, R> {
     }
 
     fn try_open(&self, name: &str) -> Result<(), ReadFault> {
-        if is_stream(self.rt, name) {
+        if let Ok(seen) = fs::metadata(self.rt, name)
+            && !seen.is_file()
+            && !seen.is_dir()
+        {
             return Ok(());
         }
         match noted(self.last, File::open(self.rt, name)) {

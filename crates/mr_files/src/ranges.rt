@@ -37,10 +37,7 @@ fn ends_line(bytes: &[u8]) -> bool
     ensures yes { result ≡ true → EndsLine bytes.now }
     ensures no { result ≡ false → ¬ EndsLine bytes.now }
 {
-    match bytes.split_last() {
-        Some((last, _)) => *last == b'\n',
-        None => true,
-    }
+    matches!(bytes.last(), None | Some(b'\n'))
 }
 
 /// Whether a range of these bytes may end there.

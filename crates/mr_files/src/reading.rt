@@ -4,7 +4,7 @@
 //! files are all tried first, so a missing one is reported before an unreadable one. A fault names
 //! the first file that can't be read; want of memory is a fault of its own.
 //! Cost: the bytes that are read, all held.
-ghost use Rattle.std.specs.Prelude.{IfOk, IfErr, ◌≡◌, ◌≤◌, ◌∷◌, [], ◌++◌, length};
+ghost use Rattle.std.specs.Prelude.{IfOk, IfErr, ◌≡◌, ◌≤◌, length, string_bytes};
 ghost use Rattle.mr_files.specs.Names.{name_of_part, result_names, name_of_certificate, part_names};
 ghost use Rattle.mr_files.specs.Refusals.{IsUnread, IsOneUnread, IsFault, IsOneUnreadWithin};
 ghost use Rattle.mr_files.specs.Refusals.{IsUnreadWithin};
@@ -46,7 +46,7 @@ pub fn read_file<S: Store>(store: &S, alloc: Global, name: &str) -> Result<Vec<u
     }
 }
 
-pub(crate) fn try_file<S: Store>(store: &S, alloc: Global, name: &str) -> Result<(), FileFault>
+fn try_file<S: Store>(store: &S, alloc: Global, name: &str) -> Result<(), FileFault>
     ensures { IfErr result (λ e. IsUnread (S.unreadable store.now) name.now e) }
 {
     match store.try_open(name) {
@@ -55,26 +55,24 @@ pub(crate) fn try_file<S: Store>(store: &S, alloc: Global, name: &str) -> Result
     }
 }
 
-fn try_part<S: Store>(store: &S, alloc: Global, dir: &str, part: usize) -> Result<(), FileFault>
-    ensures { IfErr result (λ e. IsUnread (S.unreadable store.now) (name_of_part dir.now part) e) }
-{
-    let name = part_name(alloc, dir, part)?;
-    try_file(store, alloc, name.as_str())
-}
-
-/// Tries to open each part, in order.
-pub(crate) fn try_parts<S: Store>(
+/// Tries to open each file of a result, in order. Returns the certificate's name.
+pub(crate) fn try_result<S: Store>(
     store: &S,
     alloc: Global,
     dir: &str,
     parts: usize,
-) -> Result<(), FileFault>
-    ensures { IfErr result (λ e. IsOneUnread (S.unreadable store.now) (result_names dir.now parts) e) }
+) -> Result<String, FileFault>
+    ensures last { IfOk result (λ name. string_bytes name ≡ name_of_certificate dir.now) }
+    ensures refused { IfErr result
+        (λ e. IsOneUnread (S.unreadable store.now) (result_names dir.now parts) e) }
 {
     for part in 0..parts {
-        try_part(store, alloc, dir, part)?;
+        let name = part_name(alloc, dir, part)?;
+        try_file(store, alloc, name.as_str())?;
     }
-    Ok(())
+    let last = certificate_name(alloc, dir)?;
+    try_file(store, alloc, last.as_str())?;
+    Ok(last)
 }
 
 /// Why files with a limit were not read.
@@ -150,43 +148,6 @@ pub fn read_file_within<S: Store>(
     }
 }
 
-fn read_part_within<S: Store>(
-    store: &S,
-    alloc: Global,
-    dir: &str,
-    part: usize,
-    limit: u64,
-) -> Result<Vec<u8>, LimitFault>
-    ensures bytes { IfOk result (λ v. S.holds store.now (name_of_part dir.now part) v.items) }
-    ensures within { IfOk result (λ v. length v.items ≤ limit) }
-    ensures refused { IfErr result (λ e. IsUnreadWithin (S.holds store.now)
-        (S.unreadable store.now) (name_of_part dir.now part) limit e) }
-{
-    let name = part_name(alloc, dir, part)?;
-    read_file_within(store, alloc, name.as_str(), limit)
-}
-
-fn read_parts_within<S: Store>(
-    store: &S,
-    alloc: Global,
-    dir: &str,
-    parts: usize,
-    limit: u64,
-) -> Result<Vec<Vec<u8>>, LimitFault>
-    ensures bytes { IfOk result
-        (λ v. Holding (S.holds store.now) (part_names dir.now parts) (contents v.items)) }
-    ensures within { IfOk result (λ v. AllByRecursion (λ b. length b ≤ limit) (contents v.items)) }
-    ensures refused { IfErr result (λ e. IsOneUnreadWithin (S.holds store.now)
-        (S.unreadable store.now) (result_names dir.now parts) limit e) }
-{
-    let mut files = Vec::new(alloc);
-    for part in 0..parts {
-        let bytes = read_part_within(store, alloc, dir, part, limit)?;
-        files.push(bytes).map_err(AllocError::from)?;
-    }
-    Ok(files)
-}
-
 /// The bytes of the parts, in order, and of the certificate, each at most `limit`. It opens each
 /// file before it reads any: it reports a missing file before an unreadable one. It reads at most
 /// one byte past the limit of a file.
@@ -205,10 +166,13 @@ pub fn read_result_within<S: Store>(
     ensures refused { IfErr result (λ e. IsOneUnreadWithin (S.holds store.now)
         (S.unreadable store.now) (result_names dir.now parts) limit e) }
 {
-    try_parts(store, alloc, dir, parts)?;
-    let last = certificate_name(alloc, dir)?;
-    try_file(store, alloc, last.as_str())?;
-    let outputs = read_parts_within(store, alloc, dir, parts, limit)?;
+    let last = try_result(store, alloc, dir, parts)?;
+    let mut outputs = Vec::new(alloc);
+    for part in 0..parts {
+        let name = part_name(alloc, dir, part)?;
+        let bytes = read_file_within(store, alloc, name.as_str(), limit)?;
+        outputs.push(bytes).map_err(AllocError::from)?;
+    }
     let certificate = read_file_within(store, alloc, last.as_str(), limit)?;
     Ok((outputs, certificate))
 }

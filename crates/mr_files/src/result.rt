@@ -14,8 +14,8 @@ ghost use Rattle.mr_files.specs.Refusals.{ReportsCause, IsOneUnread, IsUnread, I
 ghost use Rattle.mr_files.specs.Holding.{Agrees, AllAgree, Holding};
 ghost use Rattle.mr_files.specs.Names.{part_names, name_of_part, name_of_certificate, result_names};
 
-use crate::names::{certificate_name, part_name};
-use crate::reading::{fault_of, try_file, try_parts};
+use crate::names::part_name;
+use crate::reading::{fault_of, try_result};
 use crate::store::{FileFault, Store};
 use mr_store::{CountedRead, Device, ReadFault};
 use std::alloc::{AllocError, Global};
@@ -137,46 +137,6 @@ fn named_reader<S: Store, C: ReadCause>(
     }
 }
 
-fn part_reader<S: Store, C: ReadCause>(
-    store: &S,
-    alloc: Global,
-    dir: &str,
-    part: usize,
-) -> Result<NamedReader<S::Reader, C>, FileFault>
-    requires cause { S.unreadable store.now (name_of_part dir.now part)
-        → C.cause (name_of_part dir.now part) }
-    ensures bytes { IfOk result (λ r. (b : List ℕ) → Agrees (S.Reader.remaining r.reader) b
-        → S.holds store.now (name_of_part dir.now part) b) }
-    ensures failed { IfOk result (λ r. r.failed ≡ 0) }
-    ensures refused { IfErr result (λ e. IsUnread (S.unreadable store.now) (name_of_part dir.now part) e) }
-{
-    let name = part_name(alloc, dir, part)?;
-    named_reader(store, alloc, name)
-}
-
-fn part_readers<S: Store, C: ReadCause>(
-    store: &S,
-    alloc: Global,
-    dir: &str,
-    parts: usize,
-) -> Result<Vec<NamedReader<S::Reader, C>>, FileFault>
-    requires cause { (n : List ℕ)
-        → IsUnreadAmong (S.unreadable store.now) (result_names dir.now parts) n → C.cause n }
-    ensures bytes { IfOk result (λ v. (outs : List (List ℕ))
-        → AllAgree (map (λ r. S.Reader.remaining r.reader) v.items) outs
-        → Holding (S.holds store.now) (part_names dir.now parts) outs) }
-    ensures failed { IfOk result (λ v. (p : ℕ) → get_or (map (λ r. r.failed) v.items) p 0 ≡ 0) }
-    ensures refused { IfErr result
-        (λ e. IsOneUnread (S.unreadable store.now) (result_names dir.now parts) e) }
-{
-    let mut readers = Vec::new(alloc);
-    for part in 0..parts {
-        let reader = part_reader(store, alloc, dir, part)?;
-        readers.push(reader).map_err(AllocError::from)?;
-    }
-    Ok(readers)
-}
-
 /// Readers of the parts, in order, and of the certificate. It opens each file before any is read:
 /// it reports a missing file before an unreadable one. `C.cause` may say that a file whose read
 /// fails is one of the result's and can't be read.
@@ -198,10 +158,15 @@ pub fn result_readers<S: Store, C: ReadCause>(
     ensures refused { IfErr result
         (λ e. IsOneUnread (S.unreadable store.now) (result_names dir.now parts) e) }
 {
-    try_parts(store, alloc, dir, parts)?;
-    let last = certificate_name(alloc, dir)?;
-    try_file(store, alloc, last.as_str())?;
-    let parts = part_readers(store, alloc, dir, parts)?;
-    let certificate = named_reader(store, alloc, last)?;
-    Ok(ResultReaders { parts, certificate })
+    let last = try_result(store, alloc, dir, parts)?;
+    let mut readers = Vec::new(alloc);
+    for part in 0..parts {
+        let name = part_name(alloc, dir, part)?;
+        let reader = named_reader(store, alloc, name)?;
+        readers.push(reader).map_err(AllocError::from)?;
+    }
+    Ok(ResultReaders {
+        parts: readers,
+        certificate: named_reader(store, alloc, last)?,
+    })
 }

@@ -62,61 +62,6 @@ pub fn write_file<S: Store>(
     write_encoded_file(store, alloc, name, &Bytes(bytes))
 }
 
-fn write_part<S: Store>(
-    store: &mut S,
-    alloc: Global,
-    dir: &str,
-    part: usize,
-    bytes: &[u8],
-) -> Result<(), FileFault>
-    ensures whole { OnOk result (S.holds store.new (name_of_part dir.now part) bytes.now) }
-    ensures begins { Begins (S.holds store.old) (S.holds store.new) (name_of_part dir.now part) bytes.now }
-    ensures others { ChangesOnly (S.holds store.old) (S.holds store.new) (name_of_part dir.now part) }
-    ensures refused { IfErr result (λ e. IsUnwritten (S.unwritable store.old) (name_of_part dir.now part) e) }
-    ensures still { (n : List ℕ) → S.unwritable store.new n → S.unwritable store.old n }
-{
-    let name = part_name(alloc, dir, part)?;
-    write_encoded_file(store, alloc, name, &Bytes(bytes))
-}
-
-fn write_certificate<S: Store, C: Encode>(
-    store: &mut S,
-    alloc: Global,
-    dir: &str,
-    certificate: &C,
-) -> Result<(), FileFault>
-    ensures whole { OnOk result (S.holds store.new (name_of_certificate dir.now) (C.text certificate.now)) }
-    ensures begins { Begins (S.holds store.old) (S.holds store.new)
-        (name_of_certificate dir.now) (C.text certificate.now) }
-    ensures others { ChangesOnly (S.holds store.old) (S.holds store.new) (name_of_certificate dir.now) }
-    ensures refused { IfErr result
-        (λ e. IsUnwritten (S.unwritable store.old) (name_of_certificate dir.now) e) }
-{
-    let name = certificate_name(alloc, dir)?;
-    write_encoded_file(store, alloc, name, certificate)
-}
-
-fn write_parts<S: Store>(
-    store: &mut S,
-    alloc: Global,
-    dir: &str,
-    outputs: &[Vec<u8>],
-) -> Result<(), FileFault>
-    ensures whole { OnOk result (Holding (S.holds store.new)
-        (part_names dir.now (length outputs.now)) (contents outputs.now)) }
-    ensures others { ChangesAmong (S.holds store.old) (S.holds store.new)
-        (part_names dir.now (length outputs.now)) }
-    ensures refused { IfErr result
-        (λ e. IsWriteRefusal (S.holds store.old) (S.holds store.new) (S.unwritable store.old)
-        (part_names dir.now (length outputs.now)) (contents outputs.now) e) }
-    ensures still { (n : List ℕ) → S.unwritable store.new n → S.unwritable store.old n }
-{
-    for part in 0..outputs.len() {
-        write_part(store, alloc, dir, part, &outputs[part])?;
-    }
-    Ok(())
-}
-
 /// Writes the outputs to `part-00000` and so on, in order, then `certificate`, which may be encoded
 /// while it is written. After success all are whole; no other file changes.
 pub fn write_files<S: Store, C: Encode>(
@@ -137,6 +82,10 @@ pub fn write_files<S: Store, C: Encode>(
         (result_names dir.now (length outputs.now))
         (contents outputs.now ++ C.text certificate.now ∷ []) e) }
 {
-    write_parts(store, alloc, dir, outputs)?;
-    write_certificate(store, alloc, dir, certificate)
+    for part in 0..outputs.len() {
+        let name = part_name(alloc, dir, part)?;
+        write_encoded_file(store, alloc, name, &Bytes(&outputs[part]))?;
+    }
+    let name = certificate_name(alloc, dir)?;
+    write_encoded_file(store, alloc, name, certificate)
 }

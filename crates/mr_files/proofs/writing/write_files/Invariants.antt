@@ -2,7 +2,7 @@ use Rattle.std.proofs.Common.{take, ℕ, List}
 use Rattle.mr_input.specs.Files.{contents}
 use Rattle.mr_files.specs.Holding.{Holding, ChangesAmong}
 use Rattle.mr_files.specs.Names.{part_names}
-use Rattle.mr_files.proofs.writing.write_parts.Given as goal
+use Rattle.mr_files.proofs.writing.write_files.Given as goal
 
 abbrev pub invariant-loop-part : goal.invariant-loop-part
 invariant-loop-part g l = record {

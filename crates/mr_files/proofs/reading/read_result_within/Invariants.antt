@@ -3,10 +3,10 @@ use Rattle.std.specs.List.{AllByRecursion}
 use Rattle.mr_input.specs.Files.{contents}
 use Rattle.mr_files.specs.Holding.{Holding}
 use Rattle.mr_files.specs.Names.{part_names}
-use Rattle.mr_files.proofs.reading.read_parts_within.Given as goal
+use Rattle.mr_files.proofs.reading.read_result_within.Given as goal
 
 abbrev pub invariant-loop-part : goal.invariant-loop-part
 invariant-loop-part g l = record {
-  held : Holding (g.S.Store.holds l.store) (part_names l.dir l.part) (contents l.files.items);
-  few : AllByRecursion (λ b. length b ≤ l.limit) (contents l.files.items);
+  held : Holding (g.S.Store.holds l.store) (part_names l.dir l.part) (contents l.outputs.items);
+  few : AllByRecursion (λ b. length b ≤ l.limit) (contents l.outputs.items);
 }

@@ -1,7 +1,7 @@
 use Rattle.std.proofs.Common.{◌≡◌, ℕ, List, map, get_or}
 use Rattle.mr_files.specs.Holding.{AllAgree, Holding}
 use Rattle.mr_files.specs.Names.{part_names}
-use Rattle.mr_files.proofs.result.part_readers.Given as goal
+use Rattle.mr_files.proofs.result.result_readers.Given as goal
 
 abbrev pub invariant-loop-part : goal.invariant-loop-part
 invariant-loop-part g l = record {
