@@ -25,10 +25,10 @@ use Rattle.mr_files.proofs.Passed.{sizes_more}
 use Rattle.std.specs.List.{filter_map}
 use Rattle.mr_bytes.specs.declared.RecordName.{RecordName}
 use Rattle.mr_splits.specs.Cut.{Cut, record_named, records_of}
-use Rattle.mr_explain.specs.Explained.{explanation, kept_of}
+use Rattle.mr_explain.specs.Explained.{IsUnwanted, explanation, kept_of}
 use Rattle.mr_explain.specs.Walking.{AreCounts}
 use Rattle.mr_explain.specs.declared.query.Totals.{Totals}
-use Rattle.mr_explain.specs.Sifting.{Heading, IsSifting, IsUnwanted, KeptLines, SiftedFile, as_file, heading_of, kept_files, kept_lines, whole_file}
+use Rattle.mr_explain.specs.Sifting.{Heading, IsSifting, KeptLines, SiftedFile, as_file, heading_of, kept_files, kept_lines, whole_file}
 use Rattle.mr_explain.specs.declared.query.Query.{Query}
 use Rattle.mr_explain.specs.declared.query.SourceFile.{SourceFile}
 use Rattle.mr_explain.specs.declared.query.Wanted.{Wanted}

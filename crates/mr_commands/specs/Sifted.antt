@@ -4,7 +4,8 @@ use Rattle.std.specs.List.{AllByRecursion, flat_map}
 use Rattle.mr_input.specs.Files.{contents, split_total, total_size}
 use Rattle.mr_files.specs.Holding.{Stored}
 use Rattle.mr_files.specs.Stretches.{Stretch}
-use Rattle.mr_explain.specs.Sifting.{Heading, IsSifting, IsUnwanted, SiftedFile, heading_of, kept_files, kept_lines}
+use Rattle.mr_explain.specs.Explained.{IsUnwanted}
+use Rattle.mr_explain.specs.Sifting.{Heading, IsSifting, SiftedFile, heading_of, kept_files, kept_lines}
 use Rattle.mr_explain.specs.declared.query.Wanted.{Wanted}
 use Rattle.mr_explain.specs.declared.sifting.Sifted.{Sifted}
 use Rattle.mr_args.specs.declared.request.ExplainOptions.{ExplainOptions}

@@ -6,7 +6,7 @@ pub mod LeftOutLemmas
 pub mod LineLemmas
 pub mod NameLemmas
 pub mod WrittenLemmas
-pub mod SieveLemmas
+pub mod NeedleLemmas
 pub mod SiftingLaws
 pub mod TakingLemmas
 pub mod TextLemmas

@@ -22,7 +22,8 @@ use Rattle.mr_splits.specs.Named.{NamedRecord, named_from, named_files}
 use Rattle.mr_splits.specs.Cut.{record_named, records_of}
 use Rattle.mr_splits.specs.Kept.{kept_records}
 use Rattle.mr_explain.specs.Explained.{evidence, explanation, feeds_before, head_of, is_wanted, kept_of, label_of, left_out_text, line_at, listing, nth_source, pair_total, pairs_of, pairs_with, summary_line, summary_of, value_count}
-use Rattle.mr_explain.specs.Sifting.{AreCutAtLines, DropsOnly, Dropped, EndsLine, Heading, IsQueryOver, IsSifting, IsUnwanted, Kept, KeptLines, Piece, SiftedFile, SiftingIsExact, SiftingIsNoLonger, as_file, feeds_in, heading_of, joined, kept_files, kept_from, whole_file}
+use Rattle.mr_explain.specs.Sifting.{AreCutAtLines, DropsOnly, Dropped, EndsLine, Heading, IsQueryOver, IsSifting, Kept, KeptLines, Piece, SiftedFile, SiftingIsExact, SiftingIsNoLonger, as_file, feeds_in, heading_of, joined, kept_files, kept_from, whole_file}
+use Rattle.mr_explain.specs.Explained.{IsUnwanted}
 use Rattle.mr_explain.specs.declared.query.Query.{Query}
 use Rattle.mr_explain.specs.declared.query.SourceFile.{SourceFile}
 use Rattle.mr_explain.specs.declared.query.Wanted.{Wanted}

@@ -1,5 +1,5 @@
 -- The evidence behind a count: the records of an input that give a key, or that give nothing, and what is printed of them.
-use Rattle.std.specs.Prelude.{◌≡◌, ℕ, ◌+◌, ◌==◌, Bool, nat_lt, if◌then◌else◌, List, [], ◌∷◌, ◌++◌, codes, count_by, decimal, filter, length, slice_index_or, sum_by, take}
+use Rattle.std.specs.Prelude.{◌≡◌, ℕ, ◌+◌, ◌==◌, Bool, nat_lt, if◌then◌else◌, List, [], ◌∷◌, ◌++◌, codes, count_by, decimal, filter, length, slice_index_or, sum_by, take, false}
 use Rattle.std.specs.List.{filter_map, flat_map}
 use Rattle.std.specs.Str.{bytes_eq}
 use Rattle.mr_input.specs.Files.{nth_file}
@@ -28,6 +28,10 @@ has_key key es = nat_lt 0 (length (pairs_with key es))
 abbrev pub is_wanted : Wanted → List Emission → Bool
 is_wanted (Key key) es = has_key key.now es
 is_wanted Nothing es = length es == 0
+
+-- a record of these bytes is not looked for, wherever it stands
+abbrev pub IsUnwanted : JobSpec → Wanted → List ℕ → Type 0
+IsUnwanted job wanted line = (file start : ℕ) → is_wanted wanted (emissions job file start line) ≡ false
 
 -- how many of the pairs have the key
 abbrev pub value_count : Wanted → List Emission → ℕ

@@ -4,7 +4,7 @@ use Rattle.std.specs.List.{AllByRecursion}
 use Rattle.mr_records.specs.Records.{records}
 use Rattle.mr_jobs.specs.JobSpec.{JobSpec}
 use Rattle.mr_jobs.specs.Literal.{holds}
-use Rattle.mr_explain.specs.Sifting.{IsUnwanted}
+use Rattle.mr_explain.specs.Explained.{IsUnwanted}
 use Rattle.mr_explain.specs.declared.query.Wanted.{Wanted}
 
 -- the line doesn't hold the literal

@@ -1,12 +1,11 @@
 -- What a sifting keeps of a file, and what a query over it prints. Public clauses stand on it.
-use Rattle.std.specs.Prelude.{◌≡◌, ℕ, ◌+◌, ◌≤◌, ◌==◌, ◌⊎◌, false, Option, List, [], ◌∷◌, ◌++◌, count_by, length, map}
+use Rattle.std.specs.Prelude.{◌≡◌, ℕ, ◌+◌, ◌≤◌, ◌==◌, ◌⊎◌, Option, List, [], ◌∷◌, ◌++◌, count_by, length, map}
 use Rattle.std.specs.List.{AllByRecursion, flat_map}
 use Rattle.std.specs.Io.KnownBytes.{Consumes, IsAtEnd}
 use Rattle.mr_input.specs.Files.{total_size}
 use Rattle.mr_records.specs.Records.{records}
 use Rattle.mr_jobs.specs.JobSpec.{JobSpec}
-use Rattle.mr_jobs.specs.Emissions.{emissions}
-use Rattle.mr_explain.specs.Explained.{explanation, is_wanted, kept_of}
+use Rattle.mr_explain.specs.Explained.{IsUnwanted, explanation, kept_of}
 use Rattle.mr_explain.specs.Walking.{AreCounts}
 use Rattle.mr_explain.specs.declared.query.Query.{Query}
 use Rattle.mr_explain.specs.declared.query.SourceFile.{SourceFile}
@@ -68,10 +67,6 @@ pub record IsSifting (so : List ℕ → Type 0) (file : List ℕ) (kept : List K
   pub cut : AreCutAtLines pieces
   pub dropped : AllByRecursion (DropsOnly so) pieces
   pub kept_is : kept ≡ kept_from 0 0 pieces
-
--- a record of these bytes is not looked for, wherever it stands
-abbrev pub IsUnwanted : JobSpec → Wanted → List ℕ → Type 0
-IsUnwanted job wanted line = (file start : ℕ) → is_wanted wanted (emissions job file start line) ≡ false
 
 -- ---- what a reader's bytes are sifted into
 

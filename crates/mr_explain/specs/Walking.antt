@@ -6,32 +6,23 @@ use Rattle.mr_jobs.specs.JobSpec.{JobSpec}
 use Rattle.mr_jobs.specs.Emissions.{Emission, emissions}
 use Rattle.mr_jobs.specs.Hits.{Source}
 use Rattle.mr_splits.specs.Named.{NamedRecord}
-use Rattle.mr_explain.specs.Explained.{evidence, feeds_before, is_wanted, line_at, listing, pair_total, pairs_with, value_count}
+use Rattle.mr_explain.specs.Explained.{evidence, feeds_before, is_wanted, line_at, listing, pair_total, value_count}
+use Rattle.mr_explain.specs.Needles.{IsNeedle}
 use Rattle.mr_explain.specs.declared.lines.LineCount.{LineCount}
+use Rattle.mr_explain.specs.declared.needle.Needle.{Needle}
 use Rattle.mr_explain.specs.declared.query.Query.{Query}
 use Rattle.mr_explain.specs.declared.query.Totals.{Totals}
 use Rattle.mr_explain.specs.declared.query.Wanted.{Wanted}
-use Rattle.mr_explain.specs.declared.query.Wanted.TheVariants.{Key, Nothing}
 
 -- the count is that of a place of its file
 pub record IsCounted (files : List (List ℕ)) (c : LineCount) : Type 0 where
   pub within : c.at ≤ length (nth_file files c.file)
   pub feeds : c.feeds ≡ feeds_before (nth_file files c.file) c.at
 
--- where the other job emits nothing for a line, the line doesn't give the key
-abbrev pub IsSieveFor : JobSpec → List ℕ → JobSpec → Type 0
-IsSieveFor job key sieve = (file start : ℕ) (line : List ℕ) → emissions sieve file start line ≡ [] → pairs_with key (emissions job file start line) ≡ []
-
--- so it is for the key that is looked for
-abbrev pub IsSieve : JobSpec → Wanted → JobSpec → Type 0
-IsSieve job (Key key) sieve = IsSieveFor job key.now sieve
-IsSieve job Nothing sieve = Unit {0}
-
--- a mapper of the job, and one of a sieve, over the plan's files
-pub record AreReady (q : Query) (mapper sieve : Source) : Type 0 where
+-- a mapper of the job over the plan's files, and a needle of what is looked for
+pub record AreReady (q : Query) (mapper : Source) (needle : Needle) : Type 0 where
   pub mapper_is : mapper ≡ record { job = q.job.now; files = q.plan.now.files }
-  pub files : sieve.files ≡ q.plan.now.files
-  pub sieve_is : IsSieve q.job.now q.wanted sieve.job
+  pub needle_is : IsNeedle q.job.now q.wanted needle.fold needle.literal.now
 
 -- the counts of these records
 pub record AreCounts (job : JobSpec) (wanted : Wanted) (rs : List NamedRecord) (totals : Totals) : Type 0 where

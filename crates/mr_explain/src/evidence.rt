@@ -10,22 +10,22 @@ ghost use Rattle.mr_explain.specs.Explained.{label_of as the_label};
 ghost use Rattle.mr_explain.specs.Explained.{left_out_text, line_at, summary_line};
 ghost use Rattle.mr_explain.specs.Group.{ForKey, group_values};
 ghost use Rattle.mr_explain.specs.Walking.{AreCounts, AreReady, Counts, IsCounted};
-ghost use Rattle.mr_explain.specs.Walking.{IsSieve, printed};
+ghost use Rattle.mr_explain.specs.Walking.{printed};
 
 use crate::counting::count_wanted;
 use crate::lines::{LineCount, put_head, put_number};
+use crate::needle::{Needle, needle_of};
 use crate::query::{ExplainFault, Explained, Query, Totals, Wanted};
-use crate::sieve::sieve_of;
-use mr_jobs::{Job, Mapper};
+use mr_jobs::Mapper;
 use mr_splits::{KeptPlan, RecordAt};
 use mr_store::{CountedWrite, write_all};
 use std::alloc::Global;
 
 /// What a walk over records maps them by, and has counted.
 #[derive(Drop)]
-struct Walk<'j, 's, 'i> {
+struct Walk<'j, 'k, 'i> {
     mapper: Mapper<'j, 'i>,
-    sieve: Mapper<'s, 'i>,
+    needle: Needle<'k>,
     totals: Totals,
     lines: LineCount,
 }
@@ -65,11 +65,11 @@ fn take_record<W: CountedWrite>(
     requires small { length line.bytes.now ≤ 2 ^ 30 }
     requires line { IsLine query.now.plan.now.files line.file line.start line.bytes.now }
     requires one_each { length query.now.sources.now ≡ length query.now.plan.now.files }
-    requires ready { AreReady query.now walk.old.mapper walk.old.sieve }
+    requires ready { AreReady query.now walk.old.mapper walk.old.needle }
     requires counted { IsCounted query.now.plan.now.files walk.old.lines }
     requires few { (walk.old.totals.pairs < 2 ^ 63) × (walk.old.totals.records < 2 ^ 63) }
     ensures mappers { OnOk result ((walk.new.mapper ≡ walk.old.mapper)
-        × (walk.new.sieve ≡ walk.old.sieve)) }
+        × (walk.new.needle ≡ walk.old.needle)) }
     ensures counted { OnOk result (IsCounted query.now.plan.now.files walk.new.lines) }
     ensures counts { OnOk result (Counts query.now.wanted
         (emissions query.now.job.now line.entry.file line.entry.start line.entry.bytes.now)
@@ -81,7 +81,7 @@ fn take_record<W: CountedWrite>(
         line.entry.file line.entry.start line.entry.bytes.now)) }
     ensures cut { IfErr result (IsCutOff (W.seen writer.old) (W.seen writer.new)) }
 {
-    let Some(pairs) = count_wanted(&mut walk.mapper, &mut walk.sieve, query.wanted, line)? else {
+    let Some(pairs) = count_wanted(&mut walk.mapper, &walk.needle, query.wanted, line)? else {
         return Ok(());
     };
     let Totals {
@@ -107,11 +107,11 @@ fn walk_kept<W: CountedWrite>(
 ) -> Result<(), ExplainFault>
     requires kept { kept.now ≡ record { cut = query.now.plan.now; skips = query.now.skips.now } }
     requires one_each { length query.now.sources.now ≡ length query.now.plan.now.files }
-    requires ready { AreReady query.now walk.old.mapper walk.old.sieve }
+    requires ready { AreReady query.now walk.old.mapper walk.old.needle }
     requires counted { IsCounted query.now.plan.now.files walk.old.lines }
     requires none { walk.old.totals ≡ record { pairs = 0; records = 0 } }
     ensures mappers { OnOk result ((walk.new.mapper ≡ walk.old.mapper)
-        × (walk.new.sieve ≡ walk.old.sieve)) }
+        × (walk.new.needle ≡ walk.old.needle)) }
     ensures counted { OnOk result (IsCounted query.now.plan.now.files walk.new.lines) }
     ensures counts { OnOk result
         (AreCounts query.now.job.now query.now.wanted (kept_of query.now) walk.new.totals) }
@@ -137,7 +137,7 @@ fn walk_left_out<W: CountedWrite>(
 ) -> Result<(), ExplainFault>
     requires few { length query.now.skips.now < 2 ^ 32 }
     requires one_each { length query.now.sources.now ≡ length query.now.plan.now.files }
-    requires ready { AreReady query.now walk.old.mapper walk.old.sieve }
+    requires ready { AreReady query.now walk.old.mapper walk.old.needle }
     requires counted { IsCounted query.now.plan.now.files walk.old.lines }
     requires none { walk.old.totals ≡ record { pairs = 0; records = 0 } }
     ensures counts { OnOk result
@@ -215,36 +215,9 @@ pub fn explain<W: CountedWrite>(
     ensures cut { IfErr result (IsCutOff (W.seen writer.old) (W.seen writer.new)) }
 {
     let kept = query.plan.without(alloc, query.skips)?;
-    let found = sieve_of(alloc, query.job, query.wanted)?;
-    match &found {
-        Some(sieve) => explain_with(alloc, query, &kept, sieve, writer),
-        None => explain_with(alloc, query, &kept, query.job, writer),
-    }
-}
-
-fn explain_with<W: CountedWrite>(
-    alloc: Global,
-    query: &Query<'_>,
-    kept: &KeptPlan<'_>,
-    sieve: &Job,
-    writer: &mut W,
-) -> Result<Explained, ExplainFault>
-    requires kept { kept.now ≡ record { cut = query.now.plan.now; skips = query.now.skips.now } }
-    requires few { length query.now.skips.now < 2 ^ 32 }
-    requires one_each { length query.now.sources.now ≡ length query.now.plan.now.files }
-    requires sieve { IsSieve query.now.job.now query.now.wanted sieve.now }
-    ensures kept { IfOk result
-        (λ r. AreCounts query.now.job.now query.now.wanted (kept_of query.now) r.kept) }
-    ensures left_out { IfOk result
-        (λ r. AreCounts query.now.job.now query.now.wanted (left_out_of query.now) r.left_out) }
-    ensures written { OnOk result
-        (W.seen writer.new ≡ with_bytes (W.seen writer.old) (explanation query.now)) }
-    ensures cut { IfErr result (IsCutOff (W.seen writer.old) (W.seen writer.new)) }
-{
-    let input = query.plan.input();
     let mut walk = Walk {
-        mapper: query.job.mapper(alloc, input),
-        sieve: sieve.mapper(alloc, input),
+        mapper: query.job.mapper(alloc, query.plan.input()),
+        needle: needle_of(query.job, query.wanted),
         totals: NONE,
         lines: LineCount {
             file: 0,
@@ -252,7 +225,7 @@ fn explain_with<W: CountedWrite>(
             feeds: 0,
         },
     };
-    walk_kept(query, kept, &mut walk, writer)?;
+    walk_kept(query, &kept, &mut walk, writer)?;
     let kept = walk.totals;
     walk.totals = NONE;
     walk_left_out(query, &mut walk, writer)?;

@@ -15,15 +15,12 @@ ghost use Rattle.mr_sequential.specs.Names.{triples_of};
 ghost use Rattle.mr_sequential.specs.Sequential.{values_of};
 ghost use Rattle.mr_explain.specs.Group.{expected_text, group_values, values_with};
 ghost use Rattle.mr_explain.specs.Texts.{HasText};
-ghost use Rattle.mr_explain.specs.Walking.{IsSieveFor};
 
-use crate::counting::has_none;
+use crate::needle::needle_of;
 use crate::query::{Query, Wanted};
-use crate::sieve::sieve_of;
 use mr_bytes::Value;
-use mr_jobs::{Job, LinePairs, Mapper};
+use mr_jobs::LinePairs;
 use mr_reduce::TextWriter;
-use mr_splits::{KeptPlan, RecordAt};
 use std::alloc::{AllocError, Global};
 
 /// The text of a key for some of its values, and how many these are.
@@ -56,50 +53,19 @@ fn add_values(pairs: LinePairs<'_>, to: &mut KeyText<'_>) -> Result<(), AllocErr
     Ok(())
 }
 
-/// Adds the values that a record has for the key.
-fn add_record(
-    mapper: &mut Mapper<'_, '_>,
-    sieve: &mut Mapper<'_, '_>,
-    line: RecordAt<'_>,
-    to: &mut KeyText<'_>,
-) -> Result<(), AllocError>
-    requires small { length line.bytes.now ≤ 2 ^ 30 }
-    requires line { IsLine mapper.old.files line.file line.start line.bytes.now }
-    requires sieve { IsSieveFor mapper.old.job to.old.key.now sieve.old.job }
-    requires files { sieve.old.files ≡ mapper.old.files }
-    requires few { to.old.count < 2 ^ 63 }
-    ensures same { (mapper.new ≡ mapper.old) × (sieve.new ≡ sieve.old) }
-    ensures key { to.new.key ≡ to.old.key }
-    ensures few { OnOk result (to.new.count ≤ to.old.count + 2 ^ 31) }
-    ensures text { OnOk result ((job : JobSpec) (of : List ℕ) (values : List Emitted)
-        → HasText job of values to.old
-        → HasText job of (values ++ values_with to.old.key.now
-        (emissions mapper.old.job line.entry.file line.entry.start line.entry.bytes.now)) to.new) }
-{
-    if has_none(sieve.emit(line.file, line.start, line.bytes)?) {
-        return Ok(());
-    }
-    add_values(mapper.emit(line.file, line.start, line.bytes)?, to)
-}
-
-fn text_with(
-    alloc: Global,
-    job: &Job,
-    kept: &KeptPlan<'_>,
-    sieve: &Job,
-    key: &[u8],
-) -> Result<Vec<u8>, AllocError>
-    requires { IsSieveFor job.now key.now sieve.now }
+/// The text that a result has for the key, whatever the query looks for; nothing if no kept record
+/// gives it. It is what `compare` takes. Fails only for want of memory.
+pub fn group_text(alloc: Global, query: &Query<'_>, key: &[u8]) -> Result<Vec<u8>, AllocError>
     ensures { IfOk result (λ v. v.items
-        ≡ expected_text job.now key.now (values_of (triples_of job.now kept.now) key.now)) }
+        ≡ expected_text query.now.job.now key.now (group_values query.now key.now)) }
 {
-    let plan = kept.plan();
     // A split has at least one byte, and an input far fewer records than a count can tell.
-    let (_size, _few) = (plan.size(), plan.count());
-    let mut mapper = job.mapper(alloc, plan.input());
-    let mut sieve = sieve.mapper(alloc, plan.input());
+    let (_size, _few) = (query.plan.size(), query.plan.count());
+    let kept = query.plan.without(alloc, query.skips)?;
+    let needle = needle_of(query.job, Wanted::Key(key));
+    let mut mapper = query.job.mapper(alloc, query.plan.input());
     let mut text = Vec::new(alloc);
-    let writer = TextWriter::begin(job, key, &mut text)?;
+    let writer = TextWriter::begin(query.job, key, &mut text)?;
     let mut to = KeyText {
         key,
         writer,
@@ -108,7 +74,10 @@ fn text_with(
     };
     let mut left = kept.records();
     while let Some((_, line)) = left.next() {
-        add_record(&mut mapper, &mut sieve, line, &mut to)?;
+        if !needle.is_in(line.bytes) {
+            continue;
+        }
+        add_values(mapper.emit(line.file, line.start, line.bytes)?, &mut to)?;
     }
     let KeyText {
         key: _,
@@ -121,18 +90,4 @@ fn text_with(
     }
     writer.finish(&mut text)?;
     Ok(text)
-}
-
-/// The text that a result has for the key, whatever the query looks for; nothing if no kept record
-/// gives it. It is what `compare` takes. Fails only for want of memory.
-pub fn group_text(alloc: Global, query: &Query<'_>, key: &[u8]) -> Result<Vec<u8>, AllocError>
-    ensures { IfOk result (λ v. v.items
-        ≡ expected_text query.now.job.now key.now (group_values query.now key.now)) }
-{
-    let kept = query.plan.without(alloc, query.skips)?;
-    let found = sieve_of(alloc, query.job, Wanted::Key(key))?;
-    match &found {
-        Some(sieve) => text_with(alloc, query.job, &kept, sieve, key),
-        None => text_with(alloc, query.job, &kept, query.job, key),
-    }
 }

@@ -6,7 +6,7 @@
 //!     a part, a key     -> the key's lines against the text of its group
 //!     a file            -> the few lines of it that matter (`sift`), and their places in the file
 //!
-//! A record that doesn't contain the key's bytes is not mapped (`sieve.rt`): one search over a file
+//! A record that doesn't contain the key's bytes is not mapped (`needle.rt`): one search over a file
 //! finds the few that do. Line feeds are counted only up to the last record that is printed.
 //! `explain` over what `sift` keeps of files prints what it prints over the whole files.
 //! Cost: one pass over the input; nothing is allocated for a record. It prints by many small writes,
@@ -23,7 +23,6 @@ mod group;
 mod lines;
 mod needle;
 mod query;
-mod sieve;
 mod sifting;
 
 pub use comparing::{Comparison, compare};

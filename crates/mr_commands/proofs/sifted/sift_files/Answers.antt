@@ -2,7 +2,7 @@ use Rattle.std.proofs.Common.{◌+◌, ◌-◌, ◌≤◌, true, length, ◌/◌
 use Rattle.std.proofs.lemmas.List.{length-map, take_all}
 use Rattle.mr_jobs.specs.JobSpec.{JobSpec}
 use Rattle.mr_files.proofs.StretchLemmas.{name_at, number_below}
-use Rattle.mr_explain.specs.Sifting.{IsUnwanted}
+use Rattle.mr_explain.specs.Explained.{IsUnwanted}
 use Rattle.mr_commands.specs.Inputs.{IsInputRefusal}
 use Rattle.mr_commands.specs.Sifted.{HasSifted, IsSiftedFile, whole_stretch, wholes}
 use Rattle.mr_commands.proofs.JudgingInputs.{unread_file}

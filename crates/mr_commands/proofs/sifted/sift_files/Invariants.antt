@@ -1,5 +1,5 @@
 use Rattle.std.proofs.Common.{◌+◌, ◌≤◌, ◌^◌, map, take}
-use Rattle.mr_explain.specs.Sifting.{IsUnwanted}
+use Rattle.mr_explain.specs.Explained.{IsUnwanted}
 use Rattle.mr_commands.specs.Sifted.{HasSifted}
 use Rattle.mr_commands.proofs.sifted.sift_files.Given as goal
 

@@ -17,7 +17,7 @@ loop-line-init g c =
     c.records-left.ensures ∙ ap (λ (k : Choice). kept_records k.skips (records_of k.cut)) c.requires.kept in
     record {
       mapper = refl;
-      sieve = refl;
+      needle = refl;
       counted = c.requires.counted;
       lines = subst (All (Stands files)) (sym start)
           (All-filter (λ r. not (is_left_out q.skips.now r.name)) (Stands files) (records_of q.plan.now) (records-stand q.plan.now.size files));
@@ -53,7 +53,7 @@ loop-line-preserved g c =
     let taken = c.in_ok-take_record.ensures in
     record {
       mapper = taken.mappers.0 ∙ was.mapper;
-      sieve = taken.mappers.1 ∙ was.sieve;
+      needle = taken.mappers.1 ∙ was.needle;
       counted = taken.counted;
       lines = All-tail (Stands files) r c.next.new.self (subst (All (Stands files)) c.in-Some.ensures.next was.lines);
       few = (

@@ -8,7 +8,7 @@ use Rattle.mr_explain.proofs.evidence.walk_kept.Given as goal
 abbrev pub invariant-loop-line : goal.invariant-loop-line
 invariant-loop-line g l = record {
   mapper : l.walk.mapper ≡ l.fn.walk.mapper;
-  sieve : l.walk.sieve ≡ l.fn.walk.sieve;
+  needle : l.walk.needle ≡ l.fn.walk.needle;
   counted : IsCounted l.query.plan.now.files l.walk.lines;
   lines : All (Stands l.query.plan.now.files) l.left;
   few : (done : List NamedRecord) × (done ++ l.left ≡ kept_of l.query) × (l.walk.totals.pairs ≤ length done * 2 ^ 31)

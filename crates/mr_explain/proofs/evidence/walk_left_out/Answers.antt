@@ -25,7 +25,7 @@ pub loop-name-init : goal.loop-name-init
 loop-name-init g c =
     record {
       mapper = refl;
-      sieve = refl;
+      needle = refl;
       counted = c.requires.counted;
       few = (omega (arith, ap (λ t. t.pairs) c.requires.none), omega (arith, ap (λ t. t.records) c.requires.none));
       walked = walked_none c.args.query.now (codes "left out:") (g.W.CountedWrite.seen c.args.writer.now) c.args.walk.now.totals c.requires.none;
@@ -60,7 +60,7 @@ loop-name-preserved-then-not-has_record g c =
     more_found rs skips i c.loop-name-test.true ∙ ap (λ o. done ++ cons_option o []) none ∙ append-nil done in
     record {
       mapper = was.mapper;
-      sieve = was.sieve;
+      needle = was.needle;
       counted = was.counted;
       few = (omega (arith, was.few.0), omega (arith, was.few.1));
       walked = subst (λ (l : List NamedRecord). HasWalked q (codes "left out:") l c.loop-name.walk.totals (seen c.args.writer.now) (seen c.loop-name.writer)) (sym more) was.walked;
@@ -82,7 +82,7 @@ loop-name-preserved g c =
     let more : filter_map (record_named rs) (take (i + 1) skips) ≡ done ++ r ∷ [] = more_found rs skips i c.loop-name-test.true ∙ ap (λ o. done ++ cons_option o []) found in
     record {
       mapper = taken.mappers.0 ∙ was.mapper;
-      sieve = taken.mappers.1 ∙ was.sieve;
+      needle = taken.mappers.1 ∙ was.needle;
       counted = taken.counted;
       few = (omega (arith, was.few.0, taken.few.0), omega (arith, was.few.1, taken.few.1));
       walked = subst (λ (l : List NamedRecord). HasWalked q (codes "left out:") l c.take_record.new.walk.totals (seen c.args.writer.now) (seen c.take_record.new.writer))

@@ -8,7 +8,7 @@ use Rattle.mr_explain.proofs.evidence.walk_left_out.Given as goal
 abbrev pub invariant-loop-name : goal.invariant-loop-name
 invariant-loop-name g l = record {
   mapper : l.walk.mapper ≡ l.fn.walk.mapper;
-  sieve : l.walk.sieve ≡ l.fn.walk.sieve;
+  needle : l.walk.needle ≡ l.fn.walk.needle;
   counted : IsCounted l.query.plan.now.files l.walk.lines;
   few : (l.walk.totals.pairs ≤ l.name-index * 2 ^ 31) × (l.walk.totals.records ≤ l.name-index);
   walked : HasWalked l.query (codes "left out:") (filter_map (record_named (records_of l.query.plan.now)) (take l.name-index l.query.skips.now)) l.walk.totals

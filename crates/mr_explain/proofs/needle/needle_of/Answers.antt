@@ -5,7 +5,7 @@ use Rattle.mr_jobs.specs.Emissions.{emissions}
 use Rattle.mr_explain.specs.Explained.{is_wanted}
 use Rattle.mr_explain.specs.Needles.{Lacks}
 use Rattle.mr_explain.specs.declared.query.Wanted.{Wanted}
-use Rattle.mr_explain.proofs.SieveLemmas.{needle_fits, nothing_stands}
+use Rattle.mr_explain.proofs.NeedleLemmas.{needle_fits, nothing_stands}
 use Rattle.mr_explain.proofs.needle.needle_of.Goals as goal
 use Rattle.mr_explain.proofs.needle.needle_of.Goals.{in-Key, in-Nothing}
 

@@ -1,5 +1,6 @@
 use Rattle.std.proofs.Common.{map, subst, arith}
-use Rattle.mr_explain.specs.Sifting.{IsUnwanted, kept_lines}
+use Rattle.mr_explain.specs.Sifting.{kept_lines}
+use Rattle.mr_explain.specs.Explained.{IsUnwanted}
 use Rattle.mr_explain.specs.Needles.{Lacks}
 use Rattle.mr_explain.specs.declared.needle.Needle.{Needle}
 use Rattle.mr_explain.proofs.TakingLemmas.{sifting-weaker}

@@ -1,11 +1,11 @@
 -- A record that gives a key contains its bytes.
 use Rattle.std.proofs.Common.{◌≡◌, ℕ, ◌<◌, Bool, true, false, cond, ltb, List, [], ◌∷◌, All, length, take, map, refl, ap, sym, ◌∙◌, subst, arith}
-use Rattle.std.proofs.lemmas.Bool.{false≢true}
+use Rattle.std.proofs.lemmas.Bool.{false≢true, lt-ltb}
 use Rattle.std.proofs.lemmas.List.{length-take, get_or-take}
 use Rattle.std.proofs.lemmas.List.Elements.{All-head, All-tail}
 use Rattle.std.specs.Str.{bytes_eq}
 use Rattle.mr_bytes.specs.declared.Value.{Value}
-use Rattle.mr_jobs.specs.JobSpec.{JobSpec, LinesWith, folds_words}
+use Rattle.mr_jobs.specs.JobSpec.{JobSpec, folds_words}
 use Rattle.mr_jobs.specs.Emissions.{Emission, emissions, keys_of, value_at}
 use Rattle.mr_jobs.specs.Literal.{Holds, compared, holds}
 use Rattle.mr_jobs.proofs.KeyLemmas.{keys_stand}
@@ -42,19 +42,9 @@ none_with fold line key n value (k ∷ ks) none all =
         absurd (false≢true (sym none ∙ place_found fold line (take n key) front.0 front.1))
     by false other later = later
 
-pub none_without : (job : JobSpec) (key : List ℕ) (n : ℕ) (file start : ℕ) (line : List ℕ)
+none_without : (job : JobSpec) (key : List ℕ) (n : ℕ) (file start : ℕ) (line : List ℕ)
     → holds (folds_words job) line (take n key) ≡ false → pairs_with key (emissions job file start line) ≡ []
 none_without job key n file start line none = none_with (folds_words job) line key n (value_at job file start) (keys_of job line) none (keys_stand job line)
-
-not_held : (t : Bool) (line : List ℕ) (value : Value) → map {B = Emission} (λ k. (k, value)) (cond t (line ∷ []) []) ≡ [] → t ≡ false
-not_held true line value e = absurd (cc e)
-not_held false line value e = refl
-
-pub sieve_fits : (job : JobSpec) (key : List ℕ) (n : ℕ) (file start : ℕ) (line : List ℕ)
-    → emissions (LinesWith (take n key) (folds_words job)) file start line ≡ [] → pairs_with key (emissions job file start line) ≡ []
-sieve_fits job key n file start line none =
-    none_without job key n file start line
-    (not_held (holds (folds_words job) line (take n key)) line (value_at (LinesWith (take n key) (folds_words job)) file start) none)
 
 -- ---- a line without the front of a key is not looked for
 
@@ -65,3 +55,11 @@ needle_fits job key n file start line none = ap (λ (es : List Emission). ltb 0 
 -- nothing stands everywhere
 pub nothing_stands : (fold : Bool) (line : List ℕ) → holds fold line [] ≡ true
 nothing_stands fold line = place_found fold line [] 0 (record { fits = omega arith; reads = λ j less. absurd (omega (arith, less)) })
+
+-- who doesn't give a key has no value for it
+pub no_pair : (key : List ℕ) (es : List Emission) → has_key key es ≡ false → pairs_with key es ≡ []
+no_pair key es none = empty (pairs_with key es) none
+  where
+    empty : (ps : List Emission) → ltb 0 (length ps) ≡ false → ps ≡ []
+    empty [] e = refl
+    empty (p ∷ ps) e = absurd (false≢true (sym e ∙ lt-ltb 0 (length (p ∷ ps)) (omega arith)))
