@@ -2,7 +2,10 @@
 //!
 //! An interrupted call has failed, and so has a write that takes no byte. No clause of std says what
 //! bytes a file holds, so those of a `Counted` are unknown.
-ghost use Rattle.std.specs.Prelude.{◌≡◌, ◌↔◌, ◌≤◌, ◌<◌, false, None, IfOk, IsErr, length};
+ghost use Rattle.std.specs.Prelude.{◌≡◌, ◌↔◌, ◌⊎◌, ◌≤◌, ◌<◌, false, None, IfOk, IsErr, IsTrue};
+ghost use Rattle.std.specs.Prelude.{MatchResult, length};
+ghost use Rattle.std.specs.IoError.{error_kind};
+ghost use Rattle.std.specs.declared.io.ErrorKind.TheVariants.{OutOfMemory as no_memory};
 ghost use Rattle.std.specs.Io.KnownBytes.{ReadConsumes, WriteAppends};
 ghost use Rattle.mr_store.specs.Devices.{Counts};
 
@@ -33,6 +36,9 @@ impl Failures {
         ensures ok { IfOk result (λ v. answer ≡ Ok v) }
         ensures err { IsErr result ↔ IsErr answer }
         ensures count { Counts self.old.count self.new.count result }
+        ensures lacked { MatchResult answer (λ _. self.new.lacked_memory ≡ self.old.lacked_memory)
+            (λ e. IsTrue self.new.lacked_memory
+            ↔ (IsTrue self.old.lacked_memory ⊎ (error_kind e ≡ no_memory))) }
     {
         match answer {
             Ok(value) => Ok(value),
