@@ -1,8 +1,9 @@
 -- The attempts' index is right after each change of the attempts.
-use Rattle.std.proofs.Common.{◌≡◌, ℕ, zero, suc, ◌<◌, ◌≤◌, ◌+◌, ◌-◌, Option, Some, None, List, [], ◌∷◌, ◌++◌, length, map, replicate, slice_get, slice_index_or, refl, ap, sym, ◌∙◌, subst, inl, inr, ◌⊎◌, arith, Bool, true, false, cond, not, ◌&&◌, ◌==◌, eq-eqb}
+use Rattle.std.proofs.Common.{◌≡◌, ℕ, zero, suc, ◌<◌, ◌≤◌, ◌+◌, ◌-◌, Option, Some, None, List, [], ◌∷◌, ◌++◌, length, map, take, drop, replicate, slice_get, slice_index_or, refl, ap, sym, ◌∙◌, subst, inl, inr, ◌⊎◌, arith, Bool, true, false, cond, not, ◌&&◌, ◌==◌, eq-eqb}
 use Rattle.std.specs.List.{list_any, count_by}
 use Rattle.std.proofs.lemmas.Bool.{or_parts, cases_eq, false≢true, eqb-true}
 use Rattle.std.proofs.lemmas.List.Sums.{sum_by-cons, sum_by_push}
+use Rattle.std.proofs.Math.Seq.{take-append_seam}
 use Rattle.mr_core.specs.declared.event.Task.{Task}
 use Rattle.mr_core.specs.declared.event.Task.TheVariants.{Map as MapTask, Reduce as ReduceTask}
 use Rattle.mr_core.specs.declared.attempts.Count.{Count}
@@ -13,10 +14,14 @@ use Rattle.mr_core.specs.Index.{Issued, entry, CountsView, no_count, or_none, co
 use Rattle.mr_core.proofs.Places.{get-update_here, get-update_other, sum-update, get-push_old, get-update_from}
 use Rattle.mr_core.proofs.Progress.{length-update}
 
-pub update_counted : (f : Count → Count) (xs : List Count) (i : ℕ) (v : Count) → v ≡ f (or_none (slice_get xs i)) → update_at (λ y. v) i xs ≡ update_at f i xs
+update_counted : (f : Count → Count) (xs : List Count) (i : ℕ) (v : Count) → v ≡ f (or_none (slice_get xs i)) → update_at (λ y. v) i xs ≡ update_at f i xs
 update_counted f [] i v e = refl
 update_counted f (x ∷ xs) zero v e = ap (λ z. z ∷ xs) e
 update_counted f (x ∷ xs) (suc i) v e = ap (λ ys. x ∷ ys) (update_counted f xs i v e)
+
+pub change_counted : (f : Count → Count) (t : Task) (v : CountsView) (x : Count) → x ≡ f (count_of v t) → change_count (λ y. x) t v ≡ change_count f t v
+change_counted f (MapTask s) v x e = ap (λ (xs : List Count). let u : CountsView = record v { maps = xs } in u) (update_counted f v.maps s x e)
+change_counted f (ReduceTask p) v x e = ap (λ (xs : List Count). let u : CountsView = record v { parts = xs } in u) (update_counted f v.parts p x e)
 
 -- ---- one task's count
 
@@ -344,6 +349,12 @@ view_as f t w o xs ys v u ws vs e d g =
     let parts : length u.parts ≡ length v.parts = ap (λ (k : CountsView). length k.parts) d ∙ (same_length f t v).1 in
     let workers : length vs ≡ length ws = ap length g ∙ length-update (λ y. o) w ws in
     λ i. record { items = e i; maps = maps i; parts = parts i; workers = workers i }
+
+-- the list after a write into its slice
+pub written : (n : ℕ) (now old : List (Option ℕ)) (w : ℕ) (o : Option ℕ) → n ≡ length old → now ≡ update_at (λ y. o) w old → take n (now ++ drop (length now) old) ≡ update_at (λ y. o) w old
+written n now old w o len e =
+    let same : n ≡ length now = len ∙ sym (ap length e ∙ length-update (λ y. o) w old) in
+    subst (λ (k : ℕ). take k (now ++ drop (length now) old) ≡ now) (sym same) (take-append_seam now (drop (length now) old)) ∙ e
 
 -- the attempt that stands at the place is the live one
 pub at_index : (xs : List Attempt) (a : ℕ) (d : Attempt) → ((x : Attempt) × (slice_get xs a ≡ Some x) × (x.live ≡ true)) → d ≡ slice_index_or xs a d → (slice_get xs a ≡ Some d) × (d.live ≡ true) × (a < length xs)

@@ -26,7 +26,8 @@ use std::marker::Model;
 pub(crate) struct Attempts {
     items: Vec<Attempt>,
     counts: Counts,
-    current: Current,
+    /// The number of each worker's live attempt.
+    current: Vec<Option<u32>>,
 }
 
 impl Model for Attempts {
@@ -35,9 +36,9 @@ impl Model for Attempts {
 
     ghost Value = { Issued };
 
-    ghost view = { λ a. record { items = a.items.items; maps = length a.counts.maps; parts = length a.counts.parts; workers = length a.current } };
+    ghost view = { λ a. record { items = a.items.items; maps = length a.counts.maps; parts = length a.counts.parts; workers = length a.current.items } };
 
-    ghost invariant = { λ a. IsIndexed a.items.items a.counts a.current };
+    ghost invariant = { λ a. IsIndexed a.items.items a.counts a.current.items };
 }
 
 impl Attempts {
@@ -53,7 +54,7 @@ impl Attempts {
         Ok(Attempts {
             items: Vec::new(alloc),
             counts: Counts::new(alloc, maps, parts)?,
-            current: Current::none(alloc, workers)?,
+            current: copies(alloc, None, workers)?,
         })
     }
 
@@ -79,7 +80,7 @@ impl Attempts {
             (λ a. map (left_by worker) self.now.items ≡ update_at
             (λ t. record t { live = false }) a self.now.items) }
     {
-        self.current.of(worker)
+        entry_at(self.current.as_slice(), worker)
     }
 
     pub(crate) fn workers(&self) -> usize
@@ -104,7 +105,7 @@ impl Attempts {
         let worker = attempt.worker();
         attempt.end();
         self.counts.end(task);
-        self.current.set(worker, None);
+        put(self.current.as_mut_slice(), worker, None);
     }
 
     /// Records that the attempt, if there is one, fetched this output of split `map`.
@@ -142,7 +143,7 @@ impl Attempts {
         let worker = attempt.worker();
         attempt.give(splits, split, output);
         self.counts.end(task);
-        self.current.set(worker, None);
+        put(self.current.as_mut_slice(), worker, None);
     }
 
     /// Ends the worker's live attempt, where it has one.
@@ -169,7 +170,7 @@ impl Attempts {
         let worker = attempt.worker();
         self.items.push(attempt)?;
         self.counts.begin(task);
-        self.current.set(worker, Some(number));
+        put(self.current.as_mut_slice(), worker, Some(number));
         Ok(())
     }
 }
@@ -223,19 +224,32 @@ impl Counts {
         requires live { (count_of self.old task).live + 1 < 2 ^ 32 }
         ensures { self.new ≡ change_count begun task self.old }
     {
-        match task {
-            Task::Map(split) => raise(self.maps.as_mut_slice(), split),
-            Task::Reduce(partition) => raise(self.parts.as_mut_slice(), partition),
-        }
+        let count = self.of(task);
+        let raised = Count {
+            issued: count.issued + 1,
+            live: count.live + 1,
+        };
+        self.set(task, raised);
     }
 
     pub(crate) fn end(&mut self, task: Task)
         requires { 1 ≤ (count_of self.old task).live }
         ensures { self.new ≡ change_count ended task self.old }
     {
+        let count = self.of(task);
+        let lowered = Count {
+            issued: count.issued,
+            live: count.live - 1,
+        };
+        self.set(task, lowered);
+    }
+
+    fn set(&mut self, task: Task, count: Count)
+        ensures { self.new ≡ change_count (λ c. count) task self.old }
+    {
         match task {
-            Task::Map(split) => lower(self.maps.as_mut_slice(), split),
-            Task::Reduce(partition) => lower(self.parts.as_mut_slice(), partition),
+            Task::Map(split) => put(self.maps.as_mut_slice(), split, count),
+            Task::Reduce(partition) => put(self.parts.as_mut_slice(), partition, count),
         }
     }
 }
@@ -249,72 +263,11 @@ fn count_at(counts: &[Count], at: u32) -> Count
     }
 }
 
-fn raise(counts: &mut [Count], at: u32)
-    requires issued { (or_none (slice_get counts.old at)).issued + 1 < 2 ^ 32 }
-    requires live { (or_none (slice_get counts.old at)).live + 1 < 2 ^ 32 }
-    ensures { counts.new ≡ update_at begun at counts.old }
+fn entry_at(entries: &[Option<u32>], at: usize) -> Option<u32>
+    ensures { result ≡ entry (slice_get entries.now at) }
 {
-    let count = count_at(counts, at);
-    let raised = Count {
-        issued: count.issued + 1,
-        live: count.live + 1,
-    };
-    put(counts, at, raised);
-}
-
-fn lower(counts: &mut [Count], at: u32)
-    requires { 1 ≤ (or_none (slice_get counts.old at)).live }
-    ensures { counts.new ≡ update_at ended at counts.old }
-{
-    let count = count_at(counts, at);
-    let lowered = Count {
-        issued: count.issued,
-        live: count.live - 1,
-    };
-    put(counts, at, lowered);
-}
-
-/// The number of each worker's live attempt.
-#[derive(Drop)]
-pub(crate) struct Current {
-    items: Vec<Option<u32>>,
-}
-
-impl Model for Current {
-    ghost use Rattle.std.specs.Prelude.{List, ℕ, Option};
-
-    ghost Value = { List (Option ℕ) };
-
-    ghost view = { λ c. c.items.items };
-}
-
-impl Current {
-    pub(crate) fn none(alloc: Global, workers: u32) -> Result<Current, AllocError>
-        ensures { IfOk result (λ c. c ≡ replicate workers None) }
-    {
-        Ok(Current {
-            items: copies(alloc, None, workers)?,
-        })
-    }
-
-    pub(crate) fn len(&self) -> usize
-        ensures { result ≡ length self.now }
-    {
-        self.items.len()
-    }
-
-    pub(crate) fn of(&self, worker: usize) -> Option<u32>
-        ensures { result ≡ entry (slice_get self.now worker) }
-    {
-        match self.items.as_slice().get(worker) {
-            Some(attempt) => *attempt,
-            None => None,
-        }
-    }
-
-    pub(crate) fn set(&mut self, worker: u32, attempt: Option<u32>)
-        ensures { self.new ≡ update_at (λ x. attempt) worker self.old }
-    {
-        put(self.items.as_mut_slice(), worker, attempt);
+    match entries.get(at) {
+        Some(attempt) => *attempt,
+        None => None,
     }
 }

@@ -176,20 +176,11 @@ fn empty(split: &mut Split, output: u64) -> usize
     ensures split { split.new ≡ without_output output split.old }
     ensures count { result ≡ (if is_numbered output split.old.output then 1 else 0) }
 {
-    if !is_numbered(split.output, output) {
+    if !matches!(split.output, Some((own, _)) if own == output) {
         return 0;
     }
     split.output = None;
     1
-}
-
-fn is_numbered(output: Option<(u64, u32)>, number: u64) -> bool
-    ensures { result ≡ is_numbered number output }
-{
-    match output {
-        Some((own, _)) => own == number,
-        None => false,
-    }
 }
 
 /// Numbers of records, rising. Contracts see the list.

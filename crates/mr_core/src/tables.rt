@@ -122,17 +122,13 @@ impl MasterState {
     pub(crate) fn task_at(&self, attempt: u32) -> Option<Task>
         ensures { result ≡ task_at self.now attempt }
     {
-        match self.attempts.as_slice().get(attempt as usize) {
-            Some(attempt) => Some(attempt.task()),
-            None => None,
-        }
+        Some(self.attempts.as_slice().get(attempt as usize)?.task())
     }
 
     pub(crate) fn output(&self, map: u32) -> Option<u64>
         ensures { result ≡ output_of self.now map }
     {
-        let split = self.splits.as_slice().get(map as usize)?;
-        let (number, _) = split.output?;
+        let (number, _) = self.splits.as_slice().get(map as usize)?.output?;
         Some(number)
     }
 

@@ -119,16 +119,10 @@ impl MasterState {
     fn is_lone(&self, shape: Shape, task: Task) -> bool
         ensures { result ≡ is_lone shape self.now task }
     {
-        if self.is_complete(task) {
-            return false;
-        }
-        if !self.has_few(shape, task) {
-            return false;
-        }
-        if !self.has_live(task, 1) {
-            return false;
-        }
-        self.is_ready(task)
+        !self.is_complete(task)
+            && self.has_few(shape, task)
+            && self.has_live(task, 1)
+            && self.is_ready(task)
     }
 
     /// The task of the worker's live attempt.
