@@ -1,5 +1,5 @@
 -- A walk that takes entries at their word.
-use Rattle.std.proofs.Common.{◌≡◌, ℕ, zero, suc, ◌+◌, ◌-◌, ◌≤◌, ◌<◌, true, Option, Some, None, IfSome, Ok, List, [], ◌∷◌, length, drop, refl, ap, sym, ◌∙◌, subst, arith}
+use Rattle.std.proofs.Common.{◌≡◌, ℕ, zero, suc, ◌+◌, ◌-◌, ◌≤◌, ◌<◌, Option, Some, None, IfSome, Ok, List, [], ◌∷◌, length, drop, refl, ap, sym, ◌∙◌, subst, arith}
 use Rattle.std.proofs.lemmas.List.{drop-drop, get_or-drop}
 use Rattle.std.specs.Prelude.{nat_le}
 use Rattle.std.specs.Option.{option_map}
@@ -20,7 +20,7 @@ use Rattle.mr_splits.specs.Kept.{Choice}
 use Rattle.mr_judge.specs.declared.border.Border.{Border}
 use Rattle.mr_judge.specs.Borders.{at_border}
 use Rattle.mr_judge.specs.Outputs.{IsTold as PartsTold, Leaves}
-use Rattle.mr_check.specs.declared.front.Front.{Front}
+use Rattle.mr_check.specs.declared.accept.Front.{Front}
 use Rattle.mr_check.specs.declared.given.Given.{Given}
 use Rattle.mr_check.specs.Accepted.{known_behind}
 use Rattle.mr_judge.specs.Borders.{IsSmall}

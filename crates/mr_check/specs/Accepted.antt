@@ -13,7 +13,7 @@ use Rattle.mr_verdict.specs.declared.answers.No.{No}
 use Rattle.mr_verdict.specs.declared.items.JudgeError.{JudgeError}
 use Rattle.mr_verdict.specs.declared.items.JudgeError.TheVariants.{Fault}
 use Rattle.mr_judge.specs.Outputs.{Judges}
-use Rattle.mr_check.specs.declared.front.Front.{Front}
+use Rattle.mr_check.specs.declared.accept.Front.{Front}
 use Rattle.mr_verdict.specs.declared.answers.Yes.{Yes}
 use Rattle.mr_verdict.specs.Headline.{IsCertified, accepted_of}
 use Rattle.mr_verdict.specs.Verdict.{verdict_of}

@@ -18,24 +18,6 @@ use mr_store::CountedRead;
 use mr_verdict::{Case, Computation, No, Yes};
 use std::alloc::Global;
 
-/// The yes to a case, if it is accepted.
-fn accept_case(alloc: Global, case: &Case<'_>, progress: &dyn Progress) -> Option<Yes>
-    ensures headline { IfSome result (IsWorth case.now) }
-    ensures yes { IfSome result (λ y. verdict_on case.now ≡ Ok (accepted_of y)) }
-{
-    // A request's splits have at least one byte.
-    let _size = case.request.split_size();
-    if case.outputs.len() != case.request.parts() as usize {
-        return None;
-    }
-    let computation = Computation {
-        request: case.request,
-        input: case.input,
-    };
-    let mut items = walk(case.certificate);
-    accept(alloc, &computation, case.outputs, &mut items, progress)
-}
-
 /// Judges a case as `check` does. It reports now and then to `progress` how many entries were
 /// read, and then how many windows of the input were mapped.
 pub fn judge_on_one_thread(
@@ -47,10 +29,19 @@ pub fn judge_on_one_thread(
     ensures yes { IfOk result (λ y. verdict_on case.now ≡ Ok (accepted_of y)) }
     ensures no { IfErr result (λ e. (e ≡ OutOfMemory) ⊎ (verdict_on case.now ≡ Err e)) }
 {
-    match accept_case(alloc, case, progress) {
-        Some(yes) => Ok(yes),
-        None => judge_plainly(alloc, case, progress),
+    // A request's splits have at least one byte.
+    let _size = case.request.split_size();
+    if case.outputs.len() == case.request.parts() as usize {
+        let computation = Computation {
+            request: case.request,
+            input: case.input,
+        };
+        let mut items = walk(case.certificate);
+        if let Some(yes) = accept(alloc, &computation, case.outputs, &mut items, progress) {
+            return Ok(yes);
+        }
     }
+    judge_plainly(alloc, case, progress)
 }
 
 /// Judges a result of the request over the input: the partitions' outputs and the certificate's

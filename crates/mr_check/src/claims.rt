@@ -28,7 +28,7 @@ pub(crate) struct Late {
 
 /// The record's number in its window.
 #[inline(always)]
-fn rec_in(low: u32, bits: u32) -> u32
+pub(crate) fn rec_in(low: u32, bits: u32) -> u32
     requires { bits ≤ 32 }
     ensures { result ≡ low / 2 ^ bits }
 {
@@ -37,7 +37,7 @@ fn rec_in(low: u32, bits: u32) -> u32
 
 /// The pair's place in its record.
 #[inline(always)]
-fn place_in(low: u32, bits: u32) -> u32
+pub(crate) fn place_in(low: u32, bits: u32) -> u32
     requires { bits ≤ 32 }
     ensures { result ≡ low % 2 ^ bits }
 {
@@ -57,26 +57,6 @@ fn low_of(rec: u32, place: u32, bits: u32) -> Option<u32>
         return None;
     }
     Some(low)
-}
-
-impl Late {
-    /// The number of its record, from the window's first one.
-    #[inline(always)]
-    pub fn rec(self, bits: u32) -> u32
-        requires { bits ≤ 32 }
-        ensures { result ≡ self.low / 2 ^ bits }
-    {
-        rec_in(self.low, bits)
-    }
-
-    /// The place of its pair in the record.
-    #[inline(always)]
-    pub fn place(self, bits: u32) -> u32
-        requires { bits ≤ 32 }
-        ensures { result ≡ self.low % 2 ^ bits }
-    {
-        place_in(self.low, bits)
-    }
 }
 
 /// The windows of an input, by splits. Threads share them.
@@ -187,10 +167,7 @@ impl Windows {
         if window.split != split || rec < window.from || rec >= window.end {
             return None;
         }
-        match low_of(rec - window.from, place, self.bits()) {
-            Some(low) => Some((w, low)),
-            None => None,
-        }
+        Some((w, low_of(rec - window.from, place, self.bits())?))
     }
 }
 
@@ -291,13 +268,6 @@ fn push_empty(alloc: Global, lists: &mut Vec<LateList>, room: usize) -> Result<(
     Ok(())
 }
 
-/// Room for the entries of a window of `size` bytes, if there are `expected` over `all` bytes: its
-/// share.
-fn room_for(expected: usize, size: u64, all: u64) -> usize {
-    let share = (expected as u64).saturating_mul(size) / all.max(1);
-    share as usize
-}
-
 impl<'a> Claims<'a> {
     /// Nothing claimed yet, and keys of at most `most` bytes to come. Each window has room for its
     /// share of `expected`.
@@ -314,7 +284,8 @@ impl<'a> Claims<'a> {
         let mut lists = Vec::with_capacity(alloc, count)?;
         for w in 0..count {
             let size = windows.sizes.get(w).map_or(0, |size| *size);
-            push_empty(alloc, &mut lists, room_for(expected, size, most))?;
+            let share = (expected as u64).saturating_mul(size) / most.max(1);
+            push_empty(alloc, &mut lists, share as usize)?;
         }
         Ok(Claims {
             windows,

@@ -6,7 +6,7 @@
 //! Guesses are right where no section before has a fault: each entry gives a line if texts have one
 //! for each value, else each group does, and a line is a key, a tab, and more without a tab. Where
 //! a guess is wrong, the walk before comes to another border, and the result is not accepted.
-ghost use Rattle.std.specs.Prelude.{◌≡◌, ◌≤◌, ◌+◌, All, IfOk, IfSome, IsTrue, length};
+ghost use Rattle.std.specs.Prelude.{◌≡◌, ◌≤◌, ◌+◌, All, IfOk, IfSome, length};
 ghost use Rattle.mr_judge.specs.Borders.{IsSmall};
 
 use crate::section::Section;
@@ -46,22 +46,6 @@ impl<'a> Lines<'a> {
         Some(u64::from(feeds.to_bitmask().count_ones()))
     }
 
-    fn pass_byte(&mut self) -> bool
-        ensures output { self.new.output.now ≡ self.old.output.now }
-        ensures place { IsTrue result → self.new.place ≡ self.old.place + 1 }
-    {
-        match self.output.get(self.place) {
-            Some(byte) => {
-                if *byte == b'\n' {
-                    self.passed += 1;
-                }
-                self.place += 1;
-                true
-            }
-            None => false,
-        }
-    }
-
     /// Passes `lines` lines from the front, or all, by 64 bytes while the last line ends later.
     fn pass_to(&mut self, lines: u64) {
         while self.passed < lines {
@@ -71,9 +55,13 @@ impl<'a> Lines<'a> {
                     self.place += 64;
                 }
                 _ => {
-                    if !self.pass_byte() {
+                    let Some(byte) = self.output.get(self.place) else {
                         return;
+                    };
+                    if *byte == b'\n' {
+                        self.passed += 1;
                     }
+                    self.place += 1;
                 }
             }
         }
@@ -120,13 +108,6 @@ fn guess_at<'a>(lines: &mut Lines<'a>, section: &Section<'_>, has_lines: bool) -
     }
 }
 
-fn output_of(outputs: &[Vec<u8>], p: u64) -> &[u8] {
-    match outputs.get(p as usize) {
-        Some(output) => output.as_slice(),
-        None => b"",
-    }
-}
-
 /// A guess for each section. It reads each output at most once.
 pub(crate) fn guesses_of<'a>(
     alloc: Global,
@@ -142,7 +123,10 @@ pub(crate) fn guesses_of<'a>(
     for section in sections {
         if section.next != next {
             next = section.next;
-            lines = Lines::new(output_of(outputs, next.saturating_sub(1)));
+            lines = Lines::new(match outputs.get(next.saturating_sub(1) as usize) {
+                Some(output) => output.as_slice(),
+                None => b"",
+            });
         }
         let guess = guess_at(&mut lines, section, has_lines);
         guesses.push(guess)?;

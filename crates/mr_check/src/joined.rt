@@ -120,19 +120,11 @@ impl<'a> JoinedOutputs<'a> {
             return b"";
         }
         *p = output_at(self.starts.as_slice(), line, *p);
-        self.rest_in(*p, line)
-    }
-
-    #[inline(always)]
-    fn rest_in(&self, p: usize, line: u32) -> &'a [u8]
-        requires { p < length self.now }
-        ensures { Extends result.now (drop line (joined self.now)) }
-    {
-        let start = self.starts[p];
+        let start = self.starts[*p];
         if start > line {
             return b"";
         }
-        match self.outputs[p].as_slice().get((line - start) as usize..) {
+        match self.outputs[*p].as_slice().get((line - start) as usize..) {
             Some(rest) => rest,
             None => b"",
         }

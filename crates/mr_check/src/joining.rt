@@ -17,7 +17,6 @@ ghost use Rattle.mr_check.specs.Sections.{IsSection};
 use crate::guesses::MOST;
 use crate::section::Section;
 use crate::walk::{Came, Walked};
-use crate::windows::add;
 use mr_judge::Border;
 
 /// Where walks that fit together came to: how many they are, the section behind them, the border at
@@ -32,13 +31,6 @@ pub(crate) struct Joined<'a, 'i> {
     pub all: Option<u64>,
 }
 
-/// Whether a border, and a number of entries, are those that a request may have.
-fn is_small(border: &Border<'_>, named: u64) -> bool
-    ensures { IsTrue result → IsSmall border.now × (named ≤ 2 ^ 32) }
-{
-    border.next <= MOST && border.group <= MOST && named <= MOST
-}
-
 impl<'a, 'i> Joined<'a, 'i> {
     /// The walk over the section, if it began at the border; and how many entries were named behind
     /// it.
@@ -49,7 +41,7 @@ impl<'a, 'i> Joined<'a, 'i> {
         if !walk.began.is_same(&self.border) {
             return None;
         }
-        let named = add(self.named, walk.named)?;
+        let named = self.named.checked_add(walk.named)?;
         Some((walk, named))
     }
 
@@ -68,8 +60,12 @@ impl<'a, 'i> Joined<'a, 'i> {
             return None;
         };
         let next = sections.get(self.walks + 1)?;
-        let at = add(self.section.at, walk.most)?;
-        if next.at == 0 || next.at != at || !is_small(&border, named) {
+        let at = self.section.at.checked_add(walk.most)?;
+        if next.at == 0 || next.at != at {
+            return None;
+        }
+        // No request has more.
+        if border.next > MOST || border.group > MOST || named > MOST {
             return None;
         }
         Some(Joined {

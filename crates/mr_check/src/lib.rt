@@ -4,13 +4,11 @@
 mod accept;
 mod checking;
 mod claims;
-mod front;
 mod given;
 mod guesses;
 mod joined;
 mod joining;
 mod lines;
-mod options;
 mod section;
 mod sections;
 mod threads;
@@ -23,5 +21,4 @@ pub use mr_verdict::{
     Case, Computation, No, Source, Yes, fault_law, is_same_fault, locality_law, partition_law,
     place_law, worked_places, worked_rows, yes_law,
 };
-pub use options::JudgeOptions;
-pub use threads::{check_gated, check_threads, judge};
+pub use threads::{JudgeOptions, check_gated, check_threads, judge};

@@ -6,10 +6,10 @@
 //!
 //! Most lines end within 32 bytes. There one look by lanes finds the line's end and its TABs, and
 //! compares it with the key. Others are read by `memchr`. Takes no memory.
-ghost use Rattle.std.specs.Prelude.{◌≡◌, ℕ, ◌<◌, ◌≤◌, ◌+◌, ◌==◌, not, None, Some, get_or, length};
+ghost use Rattle.std.specs.Prelude.{◌≡◌, ℕ, ◌<◌, ◌≤◌, ◌+◌, ◌==◌, None, Some, get_or, length};
 ghost use Rattle.std.specs.Prelude.{slice_range, IsTrue, MatchOption};
 ghost use Rattle.mr_lanes.specs.Bits.{is_set};
-ghost use Rattle.mr_check.specs.Lines.{TellsNear, before_last_tab, told_key};
+ghost use Rattle.mr_check.specs.Lines.{TellsNear, told_key};
 
 use memchr::{memchr, memchr2, memrchr};
 use std::simd::prelude::*;
@@ -40,20 +40,9 @@ fn find_key(rest: &[u8]) -> Option<&[u8]>
     ensures { MatchOption result (told_key rest.now ≡ None)
         (λ key. told_key rest.now ≡ Some key.now) }
 {
-    match memchr(b'\n', rest) {
-        Some(end) => before_last_tab(&rest[..end]),
-        None => None,
-    }
-}
-
-fn before_last_tab(line: &[u8]) -> Option<&[u8]>
-    ensures { MatchOption result (before_last_tab line.now ≡ None)
-        (λ key. before_last_tab line.now ≡ Some key.now) }
-{
-    match memrchr(b'\t', line) {
-        Some(tab) => Some(&line[..tab]),
-        None => None,
-    }
+    let line = &rest[..memchr(b'\n', rest)?];
+    let tab = memrchr(b'\t', line)?;
+    Some(&line[..tab])
 }
 
 /// Whether the line in front tells a key, the bytes `start..end` of `keys`. Where 32 bytes stand
@@ -90,7 +79,7 @@ fn tells_near(line: u8x32, key: u8x32, count: usize) -> bool
     let tab = tabs.trailing_zeros();
     let next = (tabs & tabs.wrapping_sub(1)).trailing_zeros();
     let end = line_feeds(line).trailing_zeros();
-    let same = apart(line, key).trailing_zeros();
+    let same = line.simd_ne(key).to_bitmask().trailing_zeros();
     if tab as usize != count || tab >= end || end >= 32 || end >= next || tab > same {
         return false;
     }
@@ -111,28 +100,15 @@ fn line_feeds(lanes: u8x32) -> u64
     lanes.simd_eq(u8x32::splat(b'\n')).to_bitmask()
 }
 
-#[inline(always)]
-fn apart(a: u8x32, b: u8x32) -> u64
-    ensures { (i : ℕ) → i < 32 → is_set result i ≡ not (get_or a i 0 == get_or b i 0) }
-{
-    a.simd_ne(b).to_bitmask()
-}
-
-/// The same as `tells`, wherever both stand.
+/// The same as `tells`, wherever both stand: whether the line in front is the key, a TAB, and more
+/// without one.
 #[inline(never)]
 fn tells_far(rest: &[u8], keys: &[u8], start: usize, end: usize) -> bool
     ensures { IsTrue result → told_key rest.now ≡ Some (slice_range keys.now start end) }
 {
-    match keys.get(start..end) {
-        Some(key) => is_told(rest, key),
-        None => false,
-    }
-}
-
-/// Whether the line in front is the key, a TAB, and more without one.
-fn is_told(rest: &[u8], key: &[u8]) -> bool
-    ensures { IsTrue result → told_key rest.now ≡ Some key.now }
-{
+    let Some(key) = keys.get(start..end) else {
+        return false;
+    };
     if rest.len() <= key.len() || rest[key.len()] != b'\t' || !rest.starts_with(key) {
         return false;
     }

@@ -12,27 +12,10 @@ ghost use Rattle.mr_certform.specs.Walking.{items_left};
 ghost use Rattle.mr_check.specs.Sections.{IsAt, IsSection};
 
 use crate::section::Section;
-use crate::windows::add;
 use mr_certform::{Item, Walker};
 use std::alloc::{AllocError, Global};
 
 impl<'a> Section<'a> {
-    /// Before the first partition.
-    fn first(walker: &Walker<'a>) -> Section<'a>
-        requires { length (items_left walker.now) < 2 ^ 63 }
-        ensures at { result.at ≡ 0 }
-        ensures walker { result.walker ≡ walker.now }
-    {
-        Section {
-            walker: *walker,
-            at: 0,
-            next: 0,
-            groups: 0,
-            group: 0,
-            entries: 0,
-        }
-    }
-
     /// Passes the entries that come next.
     fn pass_entries(&mut self) -> Option<()>
         ensures passed { IfSome result (λ _. (all : Walks)
@@ -40,8 +23,7 @@ impl<'a> Section<'a> {
         ensures fewer { length (items_left self.new.walker) ≤ length (items_left self.old.walker) }
     {
         let passed = self.walker.skip_entries();
-        let at = add(self.at, passed)?;
-        self.at = at;
+        self.at = self.at.checked_add(passed)?;
         self.entries = self.entries.saturating_add(passed);
         Some(())
     }
@@ -79,8 +61,7 @@ impl<'a> Section<'a> {
         if let Item::End = item {
             return None;
         }
-        let at = add(self.at, 1)?;
-        self.at = at;
+        self.at = self.at.checked_add(1)?;
         self.note(item);
         Some(item)
     }
@@ -130,7 +111,14 @@ pub(crate) fn sections_of<'a>(
     requires { length (items_left walker.now) < 2 ^ 63 }
     ensures { IfOk result (λ v. All (IsSection walker.now) v.items) }
 {
-    let mut here = Section::first(walker);
+    let mut here = Section {
+        walker: *walker,
+        at: 0,
+        next: 0,
+        groups: 0,
+        group: 0,
+        entries: 0,
+    };
     let mut sections = Vec::new(alloc);
     sections.push(here)?;
     let mut begun = 0;

@@ -26,12 +26,10 @@ ghost use Rattle.mr_check.specs.Walk.{known};
 ghost use Rattle.mr_check.specs.Windows.{AreByWindows, IsByWindows, IsTested};
 ghost use Rattle.mr_check.specs.declared.windows.Tested.{Tested as Found};
 
-use crate::accept::claims_for;
-use crate::front::Front;
+use crate::accept::{Front, claims_for};
 use crate::given::{Given, Ground, total_bytes};
 use crate::guesses::guesses_of;
 use crate::joining::{Joined, join};
-use crate::options::{Crew, JudgeOptions};
 use crate::section::Section;
 use crate::sections::{Cuts, sections_of};
 use crate::walk::{Came, Walk, Walked};
@@ -41,10 +39,62 @@ use mr_certform::Walker;
 use mr_input::Input;
 use mr_jobs::Request;
 use mr_judge::{Border, Remainder, judge_plainly, judge_remainder, walk};
-use mr_tickets::{WorkPieces, draw_all};
+use mr_tickets::{Drawing, WorkPieces, draw_all};
 use mr_verdict::{Case, Computation, No, Yes};
 use std::alloc::{AllocError, Global};
 use std::thread::Threads;
+
+/// How a result is judged.
+#[derive(Drop)]
+pub struct JudgeOptions<'a, G: Gate, W: Progress> {
+    /// The number of threads that judge, 1 to 64.
+    pub threads: u32,
+    /// Each thread calls it before and after each piece of work.
+    pub gate: &'a G,
+    /// Each thread reports each piece of work to it.
+    pub progress: &'a W,
+    pub ghost some: { 1 ≤ threads },
+    pub ghost few: { threads ≤ 64 },
+}
+
+impl<'a, G: Gate, W: Progress> JudgeOptions<'a, G, W> {
+    /// Options for `threads` threads, 1 to 64.
+    pub fn of(threads: u32, gate: &'a G, progress: &'a W) -> JudgeOptions<'a, G, W>
+        requires { (1 ≤ threads) × (threads ≤ 64) }
+    {
+        JudgeOptions {
+            threads,
+            gate,
+            progress,
+        }
+    }
+}
+
+/// What runs the pieces of a judge's work.
+#[derive(Drop)]
+pub(crate) struct Crew<'a, R: Threads + Sync, G: Gate, W: Progress> {
+    pub rt: &'a R,
+    pub alloc: Global,
+    pub options: &'a JudgeOptions<'a, G, W>,
+}
+
+impl<'a, R: Threads + Sync, G: Gate, W: Progress> Crew<'a, R, G, W> {
+    /// How the threads draw `count` pieces, which the gate numbers from `first`.
+    pub fn drawing(&self, count: u32, first: u32) -> Drawing<'a, G>
+        requires { first + count < 2 ^ 32 }
+        ensures count { result.count ≡ count }
+        ensures threads { result.threads ≡ self.now.options.now.threads }
+        ensures first { result.first ≡ first }
+        ensures gate { result.gate ≡ self.now.options.now.gate }
+    {
+        Drawing {
+            count,
+            threads: self.options.threads,
+            first,
+            gate: self.options.gate,
+        }
+    }
+}
 
 /// The fewest items of a section: enough for some milliseconds of a thread's work.
 const SECTION: u64 = 65_536;
@@ -85,16 +135,6 @@ fn walk_section<'a>(
     Ok(walk.end(began, most, came))
 }
 
-/// How many items come before the next section, or before none.
-fn items_in(sections: &[Section<'_>], number: usize) -> u64
-    requires { number < length sections.now }
-{
-    match sections.get(number + 1) {
-        Some(next) => next.at.saturating_sub(sections[number].at),
-        None => u64::MAX,
-    }
-}
-
 /// The sections of a certificate, each to be walked from a border.
 #[derive(Drop)]
 struct Walking<'a, 'g, 's, 'i, 'b, 'w, W: Progress> {
@@ -129,7 +169,10 @@ impl<'a, 'g, 's, 'i, 'b, 'w, W: Progress> WorkPieces for Walking<'a, 'g, 's, 'i,
             Some(guess) => *guess,
             None => Border::before(0),
         };
-        let most = items_in(self.sections, at);
+        let most = match self.sections.get(at + 1) {
+            Some(next) => next.at.saturating_sub(self.sections[at].at),
+            None => u64::MAX,
+        };
         walk_section(alloc, self.given, &self.sections[at], began, most)
     }
 }
@@ -204,27 +247,6 @@ impl<'c, R: Threads + Sync, G: Gate, W: Progress> Crew<'c, R, G, W> {
         draw_all(self.rt, self.alloc, &walking, &drawing)
     }
 
-    /// Tests all windows.
-    fn test_windows(
-        &self,
-        given: &Given<'_>,
-        walked: &[Walked<'_>],
-    ) -> Result<Vec<Option<Tested>>, AllocError>
-        requires few { length given.now.windows.now.list < 2 ^ 32 }
-        requires by { AreByWindows given.now walked.now }
-        ensures all { IfOk result (λ v. length v.items ≡ length given.now.windows.now.list) }
-        ensures tested { IfOk result (λ v. (w : ℕ) (d : Option Found) → w < length v.items
-            → IfSome (slice_index_or v.items w d) (IsTested given.now walked.now w)) }
-    {
-        let testing = Testing {
-            given,
-            walked,
-            watch: self.options.progress,
-        };
-        let drawing = self.drawing(given.windows.count() as u32, 0);
-        draw_all(self.rt, self.alloc, &testing, &drawing)
-    }
-
     /// The answer on the partitions: how many pairs there are if they are accepted, else the first
     /// fault behind the border up to which all is right. `None` if that is not known.
     fn judge_parts(&self, front: &Front<'_>, walker: &Walker<'_>) -> Option<Result<u64, No>>
@@ -271,7 +293,13 @@ impl<'c, R: Threads + Sync, G: Gate, W: Progress> Crew<'c, R, G, W> {
         if hoped.walks == 0 && hoped.all.is_none() {
             return None;
         }
-        let Ok(tested) = self.test_windows(given, walked) else {
+        let testing = Testing {
+            given,
+            walked,
+            watch: self.options.progress,
+        };
+        let drawing = self.drawing(given.windows.count() as u32, 0);
+        let Ok(tested) = draw_all(self.rt, self.alloc, &testing, &drawing) else {
             return None;
         };
         let found = sum_windows(given, walked, &tested)?;
@@ -381,14 +409,16 @@ pub fn check_threads<R: Threads + Sync>(
     ensures no { IfErr result (λ e. (e ≡ OutOfMemory)
         ⊎ (verdict_of request.now input.now (contents outputs.now) certificate.now ≡ Err e)) }
 {
-    let case = Case {
+    check_gated(
+        rt,
+        alloc,
         request,
         input,
         outputs,
         certificate,
-    };
-    let options = JudgeOptions::of(threads, &OpenGate, &Unwatched);
-    judge(rt, alloc, &case, &options)
+        threads,
+        &OpenGate,
+    )
 }
 
 /// What `check_threads` does, with the gate called around each piece of work (`judge`).

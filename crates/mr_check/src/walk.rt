@@ -112,10 +112,10 @@ impl<'a> Walk<'a> {
         ensures stands { IsTrue result → Stands (known given.now) self.new }
         ensures claims { self.new.claims ≡ self.old.claims }
     {
-        match self.judging.step(given.request, &mut self.outputs, row) {
-            Ok(()) => true,
-            Err(_) => false,
-        }
+        matches!(
+            self.judging.step(given.request, &mut self.outputs, row),
+            Ok(())
+        )
     }
 
     /// Makes the judge's tests of an entry, by the pair that it claims. Returns whether all passed.
@@ -185,14 +185,6 @@ impl<'a> Walk<'a> {
         true
     }
 
-    /// The place of the open group's line in all outputs.
-    fn place(&self) -> u64 {
-        match self.told {
-            Some(told) => u64::from(told.line),
-            None => 0,
-        }
-    }
-
     /// Takes the next `most` items, or all up to the end, as far as all tests are passed.
     pub(crate) fn take_some<I: ItemSource>(
         &mut self,
@@ -212,7 +204,8 @@ impl<'a> Walk<'a> {
         let mut pace = Throttle::new(Phase::Judging, given.outputs.len());
         let mut left = most;
         while left > 0 {
-            pace.reach(self.place(), progress);
+            let line = self.told.map_or(0, |told| told.line);
+            pace.reach(u64::from(line), progress);
             let Ok(item) = items.next_item() else {
                 return Came::Nowhere;
             };

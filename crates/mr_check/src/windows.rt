@@ -18,7 +18,7 @@ ghost use Rattle.mr_check.specs.Walk.{HoldsFor, known};
 ghost use Rattle.mr_check.specs.Windows.{IsMapped, IsRightIn, AreByWindows, IsByWindows, IsTested};
 ghost use Rattle.mr_check.specs.declared.windows.Tested.{Tested as Found};
 
-use crate::claims::Late;
+use crate::claims::{Late, place_in, rec_in};
 use crate::given::Given;
 use crate::lines::{NEAR, tells};
 use crate::walk::Walked;
@@ -34,7 +34,8 @@ fn is_right(given: &Given<'_>, piece: &Piece, bits: u32, late: Late, p: &mut usi
     ensures { (window : Window) → IsTrue result → IsMapped given.now window piece.now
         → IsRightIn given.now bits window late }
 {
-    let Some((keys, start, end)) = piece.key(late.rec(bits), late.place(bits)) else {
+    let Some((keys, start, end)) = piece.key(rec_in(late.low, bits), place_in(late.low, bits))
+    else {
         return false;
     };
     tells(given.outputs.rest_at(late.line, p), keys, start, end)
@@ -58,14 +59,6 @@ struct Ahead {
 }
 
 impl Ahead {
-    fn new(given: &Given<'_>) -> Ahead {
-        Ahead {
-            passed: 0,
-            waits: given.outputs.len() > CACHED,
-            sum: 0,
-        }
-    }
-
     /// Passes a claim. It reads the lines of the next ones where those read so far are passed.
     #[inline(always)]
     fn pass(&mut self, given: &Given<'_>, list: &[Late]) {
@@ -75,27 +68,20 @@ impl Ahead {
         }
         self.passed = self.passed.wrapping_add(1);
     }
-
-    fn is_within_bound(&self) -> bool {
-        self.sum < u64::MAX
-    }
 }
 
 /// Reads of the lines of claim `from` and those after it both ends of what `tells` looks at, as far as
 /// they stand behind that line in its output. Returns the bytes' sum.
 #[inline(never)]
 fn read_lines(given: &Given<'_>, list: &[Late], from: usize) -> u64 {
-    let next = match list.get(from..) {
-        Some(next) => &next[..next.len().min(AHEAD)],
-        None => return 0,
-    };
+    let next = list.get(from..).unwrap_or(&[]);
     let Some(first) = next.first() else {
         return 0;
     };
     let mut p = 0;
     let rest = given.outputs.rest_at(first.line, &mut p);
     let mut sum = 0u64;
-    for late in next {
+    for late in &next[..next.len().min(AHEAD)] {
         let at = late.line.wrapping_sub(first.line) as usize;
         if let Some(near) = rest.get(at..at + NEAR) {
             sum = sum.wrapping_add(u64::from(near[0]) + u64::from(near[NEAR - 1]));
@@ -112,14 +98,18 @@ fn are_right(given: &Given<'_>, piece: &Piece, bits: u32, list: &[Late]) -> bool
         → All (IsRightIn given.now bits window) list.now }
 {
     let mut p = 0;
-    let mut ahead = Ahead::new(given);
+    let mut ahead = Ahead {
+        passed: 0,
+        waits: given.outputs.len() > CACHED,
+        sum: 0,
+    };
     for late in list {
         ahead.pass(given, list);
         if !is_right(given, piece, bits, *late, &mut p) {
             return false;
         }
     }
-    ahead.is_within_bound()
+    ahead.sum < u64::MAX
 }
 
 /// A window that was tested: how many pairs its records emit, and of how many of the walks, from the
@@ -161,13 +151,6 @@ pub(crate) fn test_window(
     })
 }
 
-#[inline(always)]
-pub(crate) fn add(sum: u64, more: u64) -> Option<u64>
-    ensures { IfSome result (λ n. n ≡ sum + more) }
-{
-    sum.checked_add(more)
-}
-
 /// How many pairs the input has, and of how many of the walks, from the first on, each claim is
 /// right, if all windows were tested.
 pub(crate) fn sum_windows(
@@ -188,13 +171,8 @@ pub(crate) fn sum_windows(
     let mut sum = 0u64;
     let mut right = walked.len();
     for w in 0..tested.len() {
-        let Some(window) = tested[w] else {
-            return None;
-        };
-        let Some(more) = add(sum, window.pairs) else {
-            return None;
-        };
-        sum = more;
+        let window = tested[w]?;
+        sum = sum.checked_add(window.pairs)?;
         right = right.min(window.right);
     }
     Some(Tested { pairs: sum, right })

@@ -15,13 +15,13 @@ returns c window told mapped =
     let p : PieceView = c.args.piece.now in
     let job = g.request.now.job in
     let key : List ℕ = slice_range c.in-Some.keys.now c.in-Some.start c.in-Some.end in
-    let here : Name = name_in p c.rec.result c.place.result in
+    let here : Name = name_in p c.rec_in.result c.place_in.result in
     let n : Name = name_of c.args.bits window c.args.late.low in
     let view = mapped.piece in
     let same : here ≡ n =
-    ap (λ (w : PieceView). name_in w c.rec.result c.place.result) view
-    ∙ (ap (λ (r : ℕ). record { split = window.split; rec = window.from + r; place = c.place.result }) c.rec.ensures
-    ∙ ap (λ (q : ℕ). record { split = window.split; rec = window.from + c.args.late.low / 2 ^ c.args.bits; place = q }) c.place.ensures) in
+    ap (λ (w : PieceView). name_in w c.rec_in.result c.place_in.result) view
+    ∙ (ap (λ (r : ℕ). record { split = window.split; rec = window.from + r; place = c.place_in.result }) c.rec_in.ensures
+    ∙ ap (λ (q : ℕ). record { split = window.split; rec = window.from + c.args.late.low / 2 ^ c.args.bits; place = q }) c.place_in.ensures) in
     let t : Triple = record { key = key; value = c.in-Some.ensures.value; name = here } in
     let found : named (window_triples job g.kept.now.cut g.kept.now.skips window.split window.from window.end) n ≡ Some t =
     subst (λ (m : Name). named (window_triples job g.kept.now.cut g.kept.now.skips window.split window.from window.end) m ≡ Some t) same

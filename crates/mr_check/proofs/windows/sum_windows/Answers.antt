@@ -21,9 +21,9 @@ loop-w-preserved c =
     let w = c.loop-w.w in
     let inv = c.loop-w.invariant in
     let less : w < length ws = omega (arith, c.loop-w-test.true, c.requires.all) in
-    let told : IsTested given c.args.walked.now w c.in-Some.window = subst (λ (o : Option Tested). IfSome o (IsTested given c.args.walked.now w)) c.in-Some.is (c.requires.tested w None c.loop-w-test.true) in
+    let told : IsTested given c.args.walked.now w c.in_ok-window.window = subst (λ (o : Option Tested). IfSome o (IsTested given c.args.walked.now w)) c.in_ok-window.was (c.requires.tested w None c.loop-w-test.true) in
     record {
-      sum = omega (arith, c.in-Some-add.ensures, inv.sum, told.pairs, pairs_next (pairs_in given) ws w less);
+      sum = omega (arith, c.in_ok-sum.ensures.1, inv.sum, told.pairs, pairs_next (pairs_in given) ws w less);
       few = omega (arith, inv.few, c.min-right.ensures);
       right = λ k d before. until_next (λ i. IsRightWindow (known given).triples (joined (known given).outputs) (get_or c.args.walked.now k d).claims i) w
           (inv.right k d (omega (arith, before, c.min-right.ensures))) (told.right k d (omega (arith, before, c.min-right.ensures)) (omega (arith, before, inv.few, c.min-right.ensures)));

@@ -27,7 +27,7 @@ returns-clause-came c k all sections walked came =
     record {
       within = less;
       section = there;
-      joined = λ holds. joined_next k all j.section next w j.border c.in-To.border j.named c.in_ok-walk.named this.here behind (c.if-next-at.false ∙ c.in_ok-at.ensures) (some_at next.at c.if-next-eq0.false) c.in-To.is passed
+      joined = λ holds. joined_next k all j.section next w j.border c.in-To.border j.named c.in_ok-walk.named this.here behind (c.if-next-at.false ∙ c.in_ok-at.ensures.1) (some_at next.at c.if-next-eq0.false) c.in-To.is passed
           (subst (λ (x : Walked). HoldsFor k (claims_of x.claims)) (on.walk w) (holds j.walks w (omega arith) on.within)) on.border on.named
           (came.joined (λ i d before within. holds i d (omega (arith, before)) within));
     }

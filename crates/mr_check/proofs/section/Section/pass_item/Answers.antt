@@ -16,6 +16,6 @@ returns-clause-passed c all here =
     let js : List Item = items_left c.next.new.self in
     let on : is ≡ c.in-Ok.item ∷ js = goes_on c.in-Ok.item is js c.in_default-item.not-End c.in-Ok.ensures.item in
     record {
-      left = ap (λ (w : Walker). items_left w) c.note.ensures.walker ∙ (drop_on 1 c.in_ok-at.at c.args.self.now.at is js (items_left all) here.left (ap (drop 1) (sym on)) c.in_ok-at.ensures ∙ ap (λ n. drop n (items_left all)) (sym c.note.ensures.at));
+      left = ap (λ (w : Walker). items_left w) c.note.ensures.walker ∙ (drop_on 1 c.in_ok-self.field-0 c.args.self.now.at is js (items_left all) here.left (ap (drop 1) (sym on)) c.in_ok-self.ensures.1 ∙ ap (λ n. drop n (items_left all)) (sym c.note.ensures.at));
       stop = ap (λ (w : Walker). halt w) c.note.ensures.walker ∙ (c.next.ensures.stop ∙ here.stop);
     }

@@ -4,17 +4,17 @@ use Rattle.mr_input.specs.Files.{contents, nth_file}
 use Rattle.mr_lanes.specs.Bits.{Extends}
 use Rattle.mr_check.specs.Joined.{joined}
 use Rattle.mr_check.proofs.JoinedLemmas.{rest_begins, contents_length, start_here, item_here}
-use Rattle.mr_check.proofs.joined.JoinedOutputs.rest_in.Goals as goal
+use Rattle.mr_check.proofs.joined.JoinedOutputs.rest_at.Goals as goal
 
 pub returns-in-Some : goal.returns-in-Some
 returns-in-Some c =
     let vs = c.self.inside.outputs.now in
-    let p = c.args.p in
-    let output : List ℕ = c.as_slice.result.now in
+    let p = c.output_at.result in
+    let output : List ℕ = c.as_slice-2.result.now in
     let n : ℕ = c.args.line - c.index-start.result.now in
     let got = c.in-Some.ensures.lookup.0 in
     let h : p < length vs = omega (arith, contents_length vs, ap length c.self.view_is) in
-    let here : nth_file (contents vs) p ≡ output = item_here vs c.index-self-p.result p output h c.index-self-p.is c.as_slice.ensures.value in
+    let here : nth_file (contents vs) p ≡ output = item_here vs c.index-self-p.result p output h c.index-self-p.is c.as_slice-2.ensures.value in
     let is : drop n (nth_file (contents vs) p) ≡ c.in-Some.rest.now =
     ap (drop n) here ∙ (sym (take_all (length output - n) (drop n output) (omega (arith, length-drop n output))) ∙ sym got.2) in
     subst (λ (rest : List ℕ). Extends rest (drop c.args.line (joined c.args.self.now))) is

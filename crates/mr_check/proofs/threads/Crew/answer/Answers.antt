@@ -9,7 +9,7 @@ use Rattle.mr_check.specs.declared.joining.Joined.{Joined}
 use Rattle.mr_check.specs.Sections.{AreJudged}
 use Rattle.mr_check.specs.Walk.{known}
 use Rattle.mr_check.proofs.SectionLemmas.{judged_behind}
-use Rattle.mr_check.proofs.options.Crew.answer.Goals as goal
+use Rattle.mr_check.proofs.threads.Crew.answer.Goals as goal
 
 pub returns-in-Some : goal.returns-in-Some
 returns-in-Some g c all right = subst (λ (o : Option ℕ). IfSome o (λ n. AreJudged (known c.args.given.now) all (Ok n))) c.in-Some.is right.ended

@@ -6,7 +6,7 @@ use Rattle.mr_check.specs.declared.joining.Joined.{Joined}
 use Rattle.mr_check.specs.Sections.{AllPass, AreJudged, HoldTo, IsSection}
 use Rattle.mr_check.specs.Walk.{known}
 use Rattle.mr_check.proofs.WalkLemmas.{accepted}
-use Rattle.mr_check.proofs.options.Crew.join_tested.Goals as goal
+use Rattle.mr_check.proofs.threads.Crew.join_tested.Goals as goal
 
 pub returns-then-named-found-clause-right : goal.returns-then-named-found-clause-right
 returns-then-named-found-clause-right g c all sections walked =

@@ -2,7 +2,7 @@ use Rattle.std.proofs.Common.{arith}
 use Rattle.mr_check.specs.Sections.{AreWalked}
 use Rattle.mr_check.specs.Walk.{known}
 use Rattle.mr_check.proofs.SectionLemmas.{ok_both}
-use Rattle.mr_check.proofs.options.Crew.walk_sections.Goals as goal
+use Rattle.mr_check.proofs.threads.Crew.walk_sections.Goals as goal
 
 pub returns-clause-walked : goal.returns-clause-walked
 returns-clause-walked g c =

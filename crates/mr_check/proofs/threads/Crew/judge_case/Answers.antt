@@ -9,7 +9,7 @@ use Rattle.mr_verdict.proofs.HeadlineLemmas.{certified}
 use Rattle.mr_verdict.specs.declared.answers.Yes.{Yes}
 use Rattle.mr_certform.specs.Walking.{items_left, halt}
 use Rattle.mr_check.specs.Accepted.{PartsJudged}
-use Rattle.mr_check.proofs.options.Crew.judge_case.Goals as goal
+use Rattle.mr_check.proofs.threads.Crew.judge_case.Goals as goal
 
 pub read-requires-clause-front : goal.read-requires-clause-front
 read-requires-clause-front g c is at e = subst (InKind AtMagic) (sym (e.0 ∙ c.walk-items.ensures.items)) (kinds_of c.args.case.now.certificate.now)

@@ -20,7 +20,7 @@ use Rattle.mr_judge.proofs.VerdictLemmas.{front_listed}
 use Rattle.mr_judge.proofs.RestLemmas.{Listing, listing, order_behind, pairs_fault, pairs_fine, all_judged}
 use Rattle.mr_check.specs.Accepted.{answer_behind, stopped}
 use Rattle.std.specs.Global.{Global}
-use Rattle.mr_check.proofs.front.Front.read.Goals as goal
+use Rattle.mr_check.proofs.accept.Front.read.Goals as goal
 
 pub expect_count-requires-clause-awaits : goal.expect_count-requires-clause-awaits
 expect_count-requires-clause-awaits g c is at there =

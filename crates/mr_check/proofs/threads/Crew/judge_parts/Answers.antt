@@ -11,7 +11,7 @@ use Rattle.mr_check.specs.declared.section.Section.{Section}
 use Rattle.mr_check.specs.declared.walk.Walked.{Walked}
 use Rattle.mr_check.proofs.WalkLemmas.{known_same}
 use Rattle.mr_check.proofs.SectionLemmas.{parts_told}
-use Rattle.mr_check.proofs.options.Crew.judge_parts.Goals as goal
+use Rattle.mr_check.proofs.threads.Crew.judge_parts.Goals as goal
 
 pub returns : goal.returns
 returns g c =
