@@ -2,8 +2,7 @@
 //!
 //! No clause of std says what a file contains. So read this code: a region is written under the
 //! name that is read later.
-ghost use Rattle.std.specs.Prelude.{◌≡◌, ◌<◌, false, vec_len, IfOk, OnErr, OnOk};
-ghost use Rattle.mr_spill.specs.Stores.{Grows};
+ghost use Rattle.std.specs.Prelude.{◌≡◌, ◌<◌, false, vec_len, IfOk};
 
 use crate::store::{GetFault, MemoryStore, PutFault, RegionStore};
 use mr_store::{Counted, CountedWrite, read_all, write_all};
@@ -90,17 +89,6 @@ impl<'a, R: Files> DirStore<'a, R> {
             Err(_) => Err(GetFault::Device),
         }
     }
-
-    fn read(&self, name: &str, into: &mut Vec<u8>) -> Result<(), GetFault>
-        ensures ok { OnOk result (Grows into.old.items into.new.items) }
-        ensures err { OnErr result (into.new.items ≡ into.old.items) }
-    {
-        let mut file = self.open(name)?;
-        match read_all(&mut file, into) {
-            Ok(()) => Ok(()),
-            Err(fault) => Err(GetFault::from(fault)),
-        }
-    }
 }
 
 impl<'a, R: Files + Sync> RegionStore for DirStore<'a, R> {
@@ -126,7 +114,9 @@ impl<'a, R: Files + Sync> RegionStore for DirStore<'a, R> {
             return Err(GetFault::NoRegion);
         }
         let name = self.name(worker, number)?;
-        self.read(name.as_str(), into)
+        let mut file = self.open(name.as_str())?;
+        read_all(&mut file, into)?;
+        Ok(())
     }
 }
 
@@ -166,14 +156,6 @@ pub struct DiskScratch<'a, R: Files> {
     rt: &'a R,
 }
 
-/// Locks the file; a system without locks goes on without one.
-fn locked(file: File) -> Result<Option<File>, ScratchFault> {
-    match file.try_lock() {
-        Err(TryLockError::WouldBlock) => Err(ScratchFault::InUse),
-        _ => Ok(Some(file)),
-    }
-}
-
 impl<'a, R: Files<File = File>> DiskScratch<'a, R> {
     pub fn new(rt: &'a R) -> DiskScratch<'a, R> {
         DiskScratch { rt }
@@ -183,7 +165,11 @@ impl<'a, R: Files<File = File>> DiskScratch<'a, R> {
     fn lock(&self, alloc: Global, dir: &str) -> Result<Option<File>, ScratchFault> {
         let name = format!(in alloc; "{dir}/regions.lock")?;
         match File::create(self.rt, name.as_str()) {
-            Ok(file) => locked(file),
+            // A system without locks goes on without one.
+            Ok(file) => match file.try_lock() {
+                Err(TryLockError::WouldBlock) => Err(ScratchFault::InUse),
+                _ => Ok(Some(file)),
+            },
             Err(error) if is_for_memory(&error) => Err(ScratchFault::OutOfMemory),
             Err(_) => Ok(None),
         }

@@ -166,25 +166,18 @@ impl<'a, R: Wait + Sync> RegionStore for MemoryStore<'a, R> {
     }
 
     fn put_owned(&self, worker: u32, bytes: Vec<u8>) -> Result<u64, PutFault> {
-        let region = match Arc::new(self.alloc, bytes) {
-            Ok(region) => region,
-            Err(_) => return Err(PutFault::OutOfMemory),
-        };
+        let region = Arc::new(self.alloc, bytes).map_err(|_| PutFault::OutOfMemory)?;
         let mut regions = self.shelf(worker).lock(self.rt);
         let number = regions.len() as u64;
-        match regions.push(region) {
-            Ok(()) => Ok(number),
-            Err(_) => Err(PutFault::OutOfMemory),
-        }
+        regions.push(region).map_err(|_| PutFault::OutOfMemory)?;
+        Ok(number)
     }
 
     fn get(&self, worker: u32, number: u64, into: &mut Vec<u8>) -> Result<(), GetFault> {
-        match self.shared(worker, number)? {
-            Some(region) => {
-                into.extend_from_slice(region.as_slice())?;
-                Ok(())
-            }
-            None => Err(GetFault::NoRegion),
-        }
+        let Some(region) = self.shared(worker, number)? else {
+            return Err(GetFault::NoRegion);
+        };
+        into.extend_from_slice(region.as_slice())?;
+        Ok(())
     }
 }
