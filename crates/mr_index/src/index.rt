@@ -7,7 +7,6 @@ ghost use Rattle.mr_jobs.specs.JobSpec.{JobSpec};
 ghost use Rattle.mr_splits.specs.Cut.{Cut, records_of};
 ghost use Rattle.mr_sequential.specs.Good.{named};
 ghost use Rattle.mr_index.specs.Index.{triples_of, triples_in, mapped_among, AreParts, AreAllParts};
-ghost use Rattle.mr_index.specs.Building.{joined};
 
 use crate::part::{Part, map_split};
 use crate::tables::Mapping;
@@ -44,17 +43,6 @@ impl Model for EmissionIndex {
       apart : AreApart 0 i.parts.items;
       count : i.total ≡ length (joined i.parts.items);
     } };
-}
-
-fn count_pairs(parts: &[Part]) -> u64
-    requires { length parts.now ≤ 2 ^ 20 }
-    ensures { result ≡ length (joined parts.now) }
-{
-    let mut total = 0u64;
-    for part in parts {
-        total += part.len() as u64;
-    }
-    total
 }
 
 /// The parts of all splits.
@@ -173,7 +161,10 @@ impl EmissionIndex {
         ensures { (job : JobSpec) (cut : Cut) (skips : List NameOfRecord)
             → AreParts job cut skips parts.items → result ≡ triples_of job cut skips }
     {
-        let total = count_pairs(parts.as_slice());
+        let mut total = 0u64;
+        for part in parts.as_slice() {
+            total += part.len() as u64;
+        }
         EmissionIndex { parts, total }
     }
 
