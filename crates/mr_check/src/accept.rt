@@ -90,8 +90,8 @@ pub(crate) fn claims_for<'a>(
     ensures none { IfOk result (λ c. claims_of c ≡ []) }
 {
     let bytes = total_bytes(given.kept.plan());
-    // About how many pairs a job emits that emits one for each word: in texts a word takes some seven
-    // bytes. A wrong number costs memory or time alone.
+    // About how many pairs a job emits that emits one for each word: in texts a word takes some
+    // seven bytes. A wrong number costs memory or time alone.
     let expected = if matches!(given.request.job().number(), 1 | 4) {
         (bytes / 7).min(pairs) as usize
     } else {

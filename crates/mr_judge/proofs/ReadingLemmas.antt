@@ -1,12 +1,11 @@
 -- Outputs that readers give: what may be still to come of them.
 use Rattle.std.proofs.Common.{◌≡◌, ◌⊎◌, ℕ, zero, suc, ◌+◌, ◌-◌, ◌<◌, ◌≤◌, Bool, true, false, cond, Option, Some, None, List, [], ◌∷◌, ◌++◌, length, map, take, drop, get_or, set, refl, ap, sym, subst, ◌∙◌, inl, inr, arith, append_assoc, length-append, take-append-drop}
-use Rattle.std.specs.Prelude.{nat_eq, min, ◌^◌, Result, Ok, Err, MatchResult}
-use Rattle.std.proofs.Math.Seq.{map-set_same}
+use Rattle.std.specs.Prelude.{nat_eq, min, ◌^◌, Ok}
 use Rattle.std.specs.List.{common_prefix_len}
 use Rattle.std.specs.Io.KnownBytes.{Consumes, IsAtEnd}
 use Rattle.std.proofs.lemmas.Bool.{false≢true, eqb-true, eqb-false, eq-eqb}
 use Rattle.std.proofs.lemmas.List.{length-map, length-take}
-use Rattle.mr_store.specs.Devices.{counted, Counts}
+use Rattle.mr_store.specs.Devices.{counted}
 use Rattle.mr_input.specs.Files.{nth_file}
 use Rattle.mr_judge.specs.Outputs.{counted_at, Opens, Compares, Ends, CanCome}
 use Rattle.mr_certform.specs.Streaming.{Agrees}
@@ -38,11 +37,6 @@ pub failed_one : {R : Type 0} (f : R → ℕ) (xs : List R) (n : ℕ) (x d : R) 
 failed_one f [] n x d h e = absurd (omega (arith, h))
 failed_one f (y ∷ xs) zero x d h e = ap (λ k. k ∷ map f xs) e
 failed_one f (y ∷ xs) (suc n) x d h e = ap (λ ks. f y ∷ ks) (failed_one f xs n x d (omega (arith, h)) e)
-
-pub failed_read : {R E : Type 0} (f : R → ℕ) (xs : List R) (n : ℕ) (x d : R) (r : Result ℕ E) → n < length xs → Counts (f (get_or xs n d)) (f x) r
-    → MatchResult r (λ _. map f (set xs n x) ≡ map f xs) (λ _. map f (set xs n x) ≡ counted_at n (map f xs))
-failed_read f xs n x d (Ok k) h e = map-set_same f xs n x d e
-failed_read f xs n x d (Err k) h e = failed_one f xs n x d h e
 
 pub no_bytes : (xs : List ℕ) → length xs ≡ 0 → xs ≡ []
 no_bytes [] e = refl

@@ -175,7 +175,8 @@ impl<'a> JudgeState<'a> {
         Ok(())
     }
 
-    /// Takes a group's first entry: its key is of this partition, and past that of the group before.
+    /// Takes a group's first entry: its key is of this partition, and past the key of the group
+    /// before.
     #[inline(never)]
     fn first_entry(
         &mut self,
