@@ -110,15 +110,6 @@ impl Track {
         }
     }
 
-    fn is_worked_at(&self, task: Task) -> bool {
-        for attempt in self.last.as_slice() {
-            if self.live(*attempt).is_some_and(|own| own.task == task) {
-                return true;
-            }
-        }
-        false
-    }
-
     fn end_attempt(&mut self, attempt: Option<u32>, at: usize) {
         if let Some(mut own) = self.live(attempt) {
             own.end = Some(at);
@@ -136,7 +127,9 @@ impl Track {
     fn begin(&mut self, at: usize, entry: &Entry, task: Task) -> Result<&'static str, AllocError> {
         let worker = self.worker_of(entry.event);
         self.end_work(worker, at);
-        let backup = self.is_worked_at(task);
+        let backup = (self.last.iter()).any(|attempt| self
+            .live(*attempt)
+            .is_some_and(|own| own.task == task));
         let number = u32::try_from(self.attempts.len()).ok();
         put(&mut self.last, worker, number);
         let attempt = Attempt {
@@ -265,33 +258,21 @@ impl Track {
     }
 }
 
-/// How the job ended, as the first ask behind its end was told.
-fn told_end(entries: &[Entry]) -> Option<End> {
-    for entry in entries {
-        match entry.answer {
-            Answer::Stop(end) if end != End::Dismissed => return Some(end),
-            _ => {}
-        }
-    }
-    None
-}
-
-/// The number of entries up to the last one that changed anything.
-fn count_of_changes(entries: &[Entry]) -> usize {
-    let mut count = 0;
-    for (at, entry) in entries.iter().enumerate() {
-        if !matches!(entry.answer, Answer::Ignored | Answer::Stop(_)) {
-            count = at.saturating_add(1);
-        }
-    }
-    count
-}
-
 /// Follows a run to its end.
 pub(crate) fn follow(alloc: Global, history: &History) -> Result<Track, AllocError> {
     let entries = history.entries.as_slice();
-    let told = told_end(entries);
-    let changed = count_of_changes(entries);
+    // How the job ended, as the first ask behind its end was told.
+    let told = entries.iter().find_map(|entry| match entry.answer {
+        Answer::Stop(end) if end != End::Dismissed => Some(end),
+        _ => None,
+    });
+    // The entries up to the last one that changed anything.
+    let mut changed = 0;
+    for (at, entry) in entries.iter().enumerate() {
+        if !matches!(entry.answer, Answer::Ignored | Answer::Stop(_)) {
+            changed = at.saturating_add(1);
+        }
+    }
     let mut track = Track::new(alloc, history.shape)?;
     for (at, entry) in entries.iter().enumerate() {
         let ended = track.end.is_some() || told.is_some() && at >= changed;
