@@ -15,10 +15,6 @@ use std::thread;
 const LOOKS: u32 = 1_000;
 
 impl<'s, L: Ledger, G: Gate, W: Progress, S: RegionStore, R: Wait> Worker<'s, L, G, W, S, R> {
-    pub(crate) fn is_stopped(&self) -> bool {
-        self.shared.stopped.load(Ordering::SeqCst)
-    }
-
     /// Ends all workers after their present turn, waiting ones too. It sets the flag under the
     /// lock, so that no worker which is about to wait misses it.
     pub(crate) fn stop(&self) {
@@ -75,7 +71,7 @@ impl<'s, L: Ledger, G: Gate, W: Progress, S: RegionStore, R: Wait> Worker<'s, L,
             .map_done(&mut self.seat, attempt, output);
         shared.news.notify_all();
         if matches!(told?, Reply::Accepted) {
-            shared.completed.mark(Task::Map(split));
+            shared.completed.mark(Task::Map(split), true);
             shared.progress.mapped();
         }
         Ok(())
@@ -134,7 +130,7 @@ impl<'s, L: Ledger, G: Gate, W: Progress, S: RegionStore, R: Wait> Worker<'s, L,
             .reduce_done(&mut self.seat, attempt, output);
         shared.news.notify_all();
         if matches!(told?, Reply::Accepted) {
-            shared.completed.mark(Task::Reduce(partition));
+            shared.completed.mark(Task::Reduce(partition), true);
             shared.progress.reduced();
         }
         Ok(())
@@ -150,18 +146,15 @@ impl<'s, L: Ledger, G: Gate, W: Progress, S: RegionStore, R: Wait> Worker<'s, L,
         Ok(())
     }
 
-    /// Whether a report may go: the task is complete, or the job has ended.
-    fn is_over(&self, task: Task) -> bool {
-        let book = self.shared.book.lock(self.rt);
-        book.complete(task) || book.end().is_some()
-    }
-
-    /// Holds a report back for at most `LOOKS` looks, and releases the lock between them.
+    /// Holds a report back until the task is complete or the job has ended, for at most `LOOKS`
+    /// looks, and releases the lock between them.
     pub(crate) fn hold(&self, task: Task) {
         for _ in 0..LOOKS {
-            if self.is_over(task) {
+            let book = self.shared.book.lock(self.rt);
+            if book.complete(task) || book.end().is_some() {
                 return;
             }
+            drop(book);
             thread::yield_now();
         }
     }

@@ -110,10 +110,6 @@ impl<'a> FaultPlan<'a> {
         self.lines.get(from..to).unwrap_or(&[])
     }
 
-    fn lines_of(&self, about: Trigger, of: u32) -> &[Line] {
-        self.lines_between(about, of, 0, u32::MAX)
-    }
-
     /// Whether the worker is lost once it has made so many reports.
     pub(crate) fn loses(&self, worker: u32, reports: u32) -> bool {
         !self
@@ -134,10 +130,9 @@ impl<'a> FaultPlan<'a> {
     fn fails_by(&self, line: &Line) -> bool {
         match self.directive(line) {
             Some(Directive::Bad { .. }) => true,
-            Some(Directive::Flaky { attempts, .. }) => match self.reached.get(line.number) {
-                Some(reached) => reached.fetch_add(1, Ordering::SeqCst) < u64::from(*attempts),
-                None => false,
-            },
+            Some(Directive::Flaky { attempts, .. }) => self.reached.get(line.number).is_some_and(
+                |n| n.fetch_add(1, Ordering::SeqCst) < u64::from(*attempts),
+            ),
             _ => false,
         }
     }
@@ -147,7 +142,7 @@ impl<'a> FaultPlan<'a> {
     /// holds. Missing records have no effect.
     pub(crate) fn failing(&self, plan: &Plan<'_>, split: u32, skips: &[u32]) -> Option<u32> {
         let mut failing = None;
-        for line in self.lines_of(Trigger::Record, split) {
+        for line in self.lines_between(Trigger::Record, split, 0, u32::MAX) {
             if let Some(rec) = failing
                 && rec != line.at
             {
@@ -161,40 +156,28 @@ impl<'a> FaultPlan<'a> {
         failing
     }
 
-    /// The lines that damage the region put now, if it is the partition's first for the split.
-    fn damaging(&self, split: u32, partition: u32) -> &[Line] {
-        let lines = self.lines_between(Trigger::Region, split, partition, partition);
-        match lines.first() {
-            Some(line) => match self.reached.get(line.number) {
-                Some(reached) if reached.fetch_add(1, Ordering::SeqCst) == 0 => lines,
-                _ => &[],
-            },
-            None => &[],
-        }
-    }
-
     /// Flips a region's named bytes, if it is the partition's first for the split. A byte's lowest
     /// bit flips once for each line that names it.
     pub(crate) fn damage(&self, split: u32, partition: u32, region: &mut [u8]) {
-        for line in self.damaging(split, partition) {
-            if let Some(Directive::Damage { place, .. }) = self.directive(line) {
-                flip(region, *place);
+        let lines = self.lines_between(Trigger::Region, split, partition, partition);
+        let first = lines.first().and_then(|line| self.reached.get(line.number));
+        if first.is_none_or(|reached| reached.fetch_add(1, Ordering::SeqCst) != 0) {
+            return;
+        }
+        for line in lines {
+            if let Some(Directive::Damage { place, .. }) = self.directive(line)
+                && let Some(byte) = region.get_mut(*place as usize)
+            {
+                *byte ^= 1;
             }
         }
     }
 
     /// Flips the lowest bit of a named byte of a reduce output, once for each line that names it.
     pub(crate) fn spoil(&self, partition: u32, output: &mut ReduceOutput) {
-        for line in self.lines_of(Trigger::Output, partition) {
+        for line in self.lines_between(Trigger::Output, partition, 0, u32::MAX) {
             output.flip(line.at);
         }
-    }
-}
-
-/// Flips the lowest bit of the byte, if there is one.
-fn flip(bytes: &mut [u8], place: u32) {
-    if let Some(byte) = bytes.get_mut(place as usize) {
-        *byte ^= 1;
     }
 }
 
@@ -211,12 +194,7 @@ fn loses(directive: &Directive, worker: u32) -> bool
 fn is_lost(directives: &[Directive], worker: u32) -> bool
     ensures { result ≡ list_any (loses_worker worker) directives.now }
 {
-    for directive in directives {
-        if loses(directive, worker) {
-            return true;
-        }
-    }
-    false
+    directives.iter().any(|directive| loses(directive, worker))
 }
 
 fn all_are_lost(directives: &[Directive], workers: u32) -> bool
@@ -233,23 +211,19 @@ fn all_are_lost(directives: &[Directive], workers: u32) -> bool
 fn records_fail(directives: &[Directive]) -> bool
     ensures { result ≡ list_any fails_record directives.now }
 {
-    for directive in directives {
-        if let Directive::Bad { .. } | Directive::Flaky { .. } = *directive {
-            return true;
-        }
-    }
-    false
+    directives.iter().any(|directive| matches!(
+        directive,
+        Directive::Bad { .. } | Directive::Flaky { .. }
+    ))
 }
 
 fn workers_are_lost(directives: &[Directive]) -> bool
     ensures { result ≡ list_any loses_some directives.now }
 {
-    for directive in directives {
-        if let Directive::Lose { .. } | Directive::Zombie { .. } = *directive {
-            return true;
-        }
-    }
-    false
+    directives.iter().any(|directive| matches!(
+        directive,
+        Directive::Lose { .. } | Directive::Zombie { .. }
+    ))
 }
 
 /// Whether the script, an unreadable region or an unsteady store accounts for the job's fault.

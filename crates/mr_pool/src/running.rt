@@ -119,44 +119,6 @@ fn is_opened(shape: Shape, opened: Shape) -> bool
     shape == opened
 }
 
-/// Turns the judge's verdict on a finished job into the run's result.
-fn answer(
-    spec: RunSpec<'_>,
-    outputs: Vec<Vec<u8>>,
-    certificate: Vec<u8>,
-    judged: Result<Yes, No>,
-    history: History,
-) -> Result<Certified, RunFault>
-    requires done { IsDoneRun spec.request.now spec.input.now history.shape history (contents outputs.items) certificate.items }
-    requires headline { IfOk judged (λ y. IsCertified spec.request.now spec.input.now
-        (contents outputs.items) certificate.items y.skips.items y.pairs) }
-    requires yes { IfOk judged (λ y. verdict_of spec.request.now spec.input.now
-        (contents outputs.items) certificate.items ≡ Ok (accepted_of y)) }
-    requires good { OnOk judged (IsGoodResult spec.request.now spec.input.now (contents outputs.items) certificate.items) }
-    requires version { OnOk judged (IsInVersion spec.version certificate.items) }
-    requires no { IfErr judged (λ e. (e ≡ No.OutOfMemory)
-        ⊎ (verdict_of spec.request.now spec.input.now (contents outputs.items) certificate.items ≡ Err e)) }
-    ensures certified { IfOk result (IsCertifiedRun spec.entry.request.now spec.entry.input.now history.shape spec.entry.version) }
-    ensures fault { IfErr result (λ e. (steady : Bool) → IsRunFault spec.entry.request.now
-        spec.entry.input.now spec.entry.script.now steady history.shape e) }
-{
-    match judged {
-        Ok(yes) => Ok(Certified {
-            outputs,
-            certificate,
-            skips: yes.skips,
-            pairs: yes.pairs,
-            history,
-        }),
-        Err(no) => {
-            if is_same_fault(no, No::OutOfMemory) {
-                return Err(RunFault::OutOfMemory);
-            }
-            Err(RunFault::Uncertified(no, history))
-        }
-    }
-}
-
 /// What the workers of a run meet: a gate around each attempt, the store of regions, an observer.
 #[derive(Drop)]
 pub struct Environment<'a, G: Gate, S: RegionStore + Drop, W: Progress> {
@@ -231,7 +193,21 @@ impl<'a, W: Progress, R: Threads + Sync> RunJudge<'a, W, R> {
         )?;
         let judged = self.judge(outputs.as_slice(), certificate.as_slice());
         let history = book.close(seats);
-        answer(spec, outputs, certificate, judged, history)
+        match judged {
+            Ok(yes) => Ok(Certified {
+                outputs,
+                certificate,
+                skips: yes.skips,
+                pairs: yes.pairs,
+                history,
+            }),
+            Err(no) => {
+                if is_same_fault(no, No::OutOfMemory) {
+                    return Err(RunFault::OutOfMemory);
+                }
+                Err(RunFault::Uncertified(no, history))
+            }
+        }
     }
 
     /// The result of a run whose book has closed.

@@ -26,6 +26,7 @@ use mr_task::{
 };
 use std::alloc::AllocError;
 use std::sync::Wait;
+use std::sync::atomic::Ordering;
 use std::sync::ledger::Ledger;
 
 #[derive(Clone, Copy, PartialEq, Eq)]
@@ -95,37 +96,25 @@ impl<'s, L: Ledger, G: Gate, W: Progress, S: RegionStore, R: Wait> Worker<'s, L,
         Ok(())
     }
 
-    /// Puts a region, damaged if the script says so. `None` if the store's device failed.
-    fn put(
-        &self,
-        split: u32,
-        partition: u32,
-        mut region: Vec<u8>,
-    ) -> Result<Option<u64>, AllocError> {
-        let shared = self.shared;
-        shared
-            .orders
-            .damage(split, partition, region.as_mut_slice());
-        match shared.store.put_owned(self.number, region) {
-            Ok(number) => Ok(Some(number)),
-            Err(PutFault::OutOfMemory) => Err(AllocError),
-            Err(PutFault::Device) => Ok(None),
-        }
-    }
-
-    /// Puts the regions of each run of a piece and frees them; false if the store's device failed.
+    /// Puts the regions of each run of a piece, damaged where the script says so, and frees them;
+    /// false if the store's device failed.
     fn put_piece(
         &self,
         split: u32,
         piece: MapOutput,
         stored: &mut Stored,
     ) -> Result<bool, AllocError> {
+        let shared = self.shared;
         for run in piece.into_runs() {
             let mut partition = 0u32;
-            for region in run.into_texts() {
-                match self.put(split, partition, region)? {
-                    Some(number) => stored.push(number)?,
-                    None => return Ok(false),
+            for mut region in run.into_texts() {
+                shared
+                    .orders
+                    .damage(split, partition, region.as_mut_slice());
+                match shared.store.put_owned(self.number, region) {
+                    Ok(number) => stored.push(number)?,
+                    Err(PutFault::OutOfMemory) => return Err(AllocError),
+                    Err(PutFault::Device) => return Ok(false),
                 }
                 partition = partition.saturating_add(1);
             }
@@ -171,7 +160,7 @@ impl<'s, L: Ledger, G: Gate, W: Progress, S: RegionStore, R: Wait> Worker<'s, L,
                 if self.leave_map(attempt, split)? {
                     return Ok(true);
                 }
-                shared.completed.reopen(task);
+                shared.completed.mark(task, false);
             }
             let (piece, behind) = rest.next_piece(&demand)?;
             if !self.put_piece(split, piece, &mut stored)? {
@@ -184,15 +173,6 @@ impl<'s, L: Ledger, G: Gate, W: Progress, S: RegionStore, R: Wait> Worker<'s, L,
         }
         self.report_map(attempt, split, stored)?;
         Ok(true)
-    }
-
-    /// Appends a region's bytes; false if the device failed or there is no such region.
-    fn read_region(&self, place: Place, into: &mut Vec<u8>) -> Result<bool, AllocError> {
-        match self.shared.store.get(place.worker, place.number, into) {
-            Ok(()) => Ok(true),
-            Err(GetFault::OutOfMemory) => Err(AllocError),
-            Err(GetFault::Device | GetFault::NoRegion) => Ok(false),
-        }
     }
 
     /// Passes a split's regions to the reduction, one after another in `bytes`; false if one can't
@@ -210,8 +190,11 @@ impl<'s, L: Ledger, G: Gate, W: Progress, S: RegionStore, R: Wait> Worker<'s, L,
         }
         for run in 0..stored.runs() {
             bytes.clear();
-            if !self.read_region(stored.place(partition, run), bytes)? {
-                return Ok(false);
+            let Place { worker, number } = stored.place(partition, run);
+            match self.shared.store.get(worker, number, bytes) {
+                Ok(()) => {}
+                Err(GetFault::OutOfMemory) => return Err(AllocError),
+                Err(GetFault::Device | GetFault::NoRegion) => return Ok(false),
             }
             if !reduction.take(&RegionView::of(bytes.as_slice(), split))? {
                 return Ok(false);
@@ -311,7 +294,7 @@ impl<'s, L: Ledger, G: Gate, W: Progress, S: RegionStore, R: Wait> Worker<'s, L,
         let mut refused = false;
         for _ in self.rt.forever() {
             match self.turn() {
-                Ok(Next::Ask) if !self.is_stopped() => {}
+                Ok(Next::Ask) if !self.shared.stopped.load(Ordering::SeqCst) => {}
                 Ok(_) => break,
                 Err(_) => {
                     refused = true;

@@ -139,16 +139,10 @@ impl TaskFlags {
         }
     }
 
-    pub(crate) fn mark(&self, task: Task) {
+    /// Whether the task is complete. After a loss another output is wanted.
+    pub(crate) fn mark(&self, task: Task, is_complete: bool) {
         if let Some(flag) = self.flag(task) {
-            flag.store(true, Ordering::SeqCst);
-        }
-    }
-
-    /// Another output is wanted: the task's is lost.
-    pub(crate) fn reopen(&self, task: Task) {
-        if let Some(flag) = self.flag(task) {
-            flag.store(false, Ordering::SeqCst);
+            flag.store(is_complete, Ordering::SeqCst);
         }
     }
 
@@ -167,10 +161,7 @@ pub(crate) struct UntilComplete<'a> {
 
 impl<'a> Cancellation for UntilComplete<'a> {
     fn is_wanted(&self) -> bool {
-        match self.flag {
-            Some(flag) => !flag.load(Ordering::SeqCst),
-            None => true,
-        }
+        self.flag.is_none_or(|flag| !flag.load(Ordering::SeqCst))
     }
 }
 
